@@ -1,0 +1,4 @@
+pub mod Functions
+pub mod Parts
+pub mod Rings
+pub mod States

@@ -1,0 +1,10 @@
+pub mod Answer
+pub mod Calls
+pub mod Functions
+pub mod Lists
+pub mod Make
+pub mod Net
+pub mod Numbers
+pub mod SetSlot
+pub mod SetUp
+pub mod State
