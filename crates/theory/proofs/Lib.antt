@@ -2,3 +2,4 @@ pub mod Functions
 pub mod Parts
 pub mod Rings
 pub mod States
+pub mod Sums

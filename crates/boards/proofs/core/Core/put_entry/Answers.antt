@@ -1,0 +1,26 @@
+use mathlib.Core.Path.{refl}
+use native.Mathlib.Omega.{arith}
+use lib.ListN.{set}
+use Rattle.theory.specs.Lists.{parts}
+use Rattle.boards.specs.Models.{registers-of, cells-of, entries-of, free-of, held-of}
+use Rattle.boards.proofs.Boards.{entries-changed}
+use Rattle.boards.proofs.Cores.{entries-end}
+use Rattle.boards.proofs.core.Core.put_entry.Needs as need
+
+pub store-in-requires : need.store-in-requires
+store-in-requires g c κs =
+    let w = g .W·Wire in
+    entries-end (w .width) (w .capacity) (w .waiting) (c .args .self .now) (c .args .b) (c .pre .board) (c .pre .sound)
+
+pub returns : need.returns
+returns g c =
+    let w = g .W·Wire in
+    let p = c .args .self .now in
+    let s = c .pre .sound .sized in
+    record {
+      sound = record { sized = (s .0, s .1, s .2, omega (arith, s .3, c .store-in .ensures .room)) };
+      settings = refl {a = p .settings};
+      after = entries-changed (p .settings) (w .width (p .wire)) (w .capacity (p .wire)) (w .waiting (p .wire)) (p .lead) (p .result) (c .args .b) (c .pre .board)
+          (registers-of (p .registers)) (cells-of p) (entries-of p) (free-of p) (held-of p)
+          (parts (c .store-in .last .xs) (p .settings .entries)) (λ l. set l (c .args .entry) (c .args .v)) (c .store-in .ensures .after);
+    }

@@ -1,0 +1,105 @@
+// What a board holds.
+ghost use mathlib.Core.Path.{_≡_};
+ghost use Prim.Native.Nat.{_<_};
+ghost use lib.ListN.{getD};
+ghost use Rattle.theory.specs.declared.memory.Cell.the-variants.{Value};
+ghost use Rattle.theory.specs.Answer.{collecting};
+ghost use Rattle.theory.specs.State.{no-entry};
+ghost use Rattle.boards.specs.Models.{model, Sound};
+use super::Core;
+use crate::flat::read_in;
+use crate::registers::NO_ENTRY;
+use theory::memory::Cell;
+use theory::memory::Entry;
+use theory::memory::Mode;
+use theory::memory::Outcome;
+use wire::wire::Wire;
+
+impl<W: Wire> Core<'_, W> {
+    pub fn slot(&self, b: u32, slot: u32) -> Cell
+        requires sound { ⌜ Sound (now self) ⌝ }
+        requires board { ⌜ b < now self .settings .boards ⌝ }
+        requires slot { ⌜ slot < 8 ⌝ }
+        ensures { λ r. ⌜ r ≡ getD (model width capacity waiting (now (self .entry)) .boards b .slots) slot (Value 0) ⌝ }
+    {
+        self.registers[b as usize].slots[slot as usize]
+    }
+
+    pub fn top(&self, b: u32) -> u32
+        requires sound { ⌜ Sound (now self) ⌝ }
+        requires board { ⌜ b < now self .settings .boards ⌝ }
+        ensures { λ r. ⌜ r ≡ model width capacity waiting (now (self .entry)) .boards b .top ⌝ }
+    {
+        self.registers[b as usize].top
+    }
+
+    pub fn waits(&self, b: u32) -> bool
+        requires sound { ⌜ Sound (now self) ⌝ }
+        requires board { ⌜ b < now self .settings .boards ⌝ }
+        ensures { λ r. ⌜ r ≡ model width capacity waiting (now (self .entry)) .boards b .waits ⌝ }
+    {
+        self.registers[b as usize].waits
+    }
+
+    pub fn outcome(&self, b: u32) -> Outcome
+        requires sound { ⌜ Sound (now self) ⌝ }
+        requires board { ⌜ b < now self .settings .boards ⌝ }
+        ensures { λ r. ⌜ r ≡ model width capacity waiting (now (self .entry)) .boards b .outcome ⌝ }
+    {
+        self.registers[b as usize].outcome
+    }
+
+    pub fn mode(&self, b: u32) -> Mode
+        requires sound { ⌜ Sound (now self) ⌝ }
+        requires board { ⌜ b < now self .settings .boards ⌝ }
+        ensures { λ r. ⌜ r ≡ model width capacity waiting (now (self .entry)) .boards b .mode ⌝ }
+    {
+        self.registers[b as usize].mode
+    }
+
+    // Whether the board is in a collection.
+    pub fn collecting(&self, b: u32) -> bool
+        requires sound { ⌜ Sound (now self) ⌝ }
+        requires board { ⌜ b < now self .settings .boards ⌝ }
+        ensures { λ r. ⌜ r ≡ collecting (model width capacity waiting (now (self .entry)) .boards b .mode) ⌝ }
+    {
+        match self.mode(b) {
+            Mode::Run => false,
+            Mode::Mark => true,
+            Mode::Done => true,
+        }
+    }
+
+    // The credit that is left.
+    pub fn credit(&self, b: u32) -> u32
+        requires sound { ⌜ Sound (now self) ⌝ }
+        requires board { ⌜ b < now self .settings .boards ⌝ }
+        ensures { λ r. ⌜ r ≡ model width capacity waiting (now (self .entry)) .boards b .purse .have ⌝ }
+    {
+        self.registers[b as usize].purse.have()
+    }
+
+    // A cell of the board's own part; past its end there is none, and a value 0 is read.
+    pub fn cell(&self, b: u32, at: u32) -> Cell
+        requires sound { ⌜ Sound (now self) ⌝ }
+        requires board { ⌜ b < now self .settings .boards ⌝ }
+        ensures { λ r. ⌜ r ≡ getD (model width capacity waiting (now (self .entry)) .boards b .cells) at (Value 0) ⌝ }
+    {
+        if at >= self.settings.cells {
+            return Cell::Value(0);
+        }
+        read_in(self.cells, self.settings.cells, b, at)
+    }
+
+    // An entry of the board's own part; past its end there is none, and it reads as a free one.
+    pub fn entry(&self, b: u32, entry: u32) -> Entry
+        requires sound { ⌜ Sound (now self) ⌝ }
+        requires board { ⌜ b < now self .settings .boards ⌝ }
+        ensures { λ r. ⌜ r ≡ getD (model width capacity waiting (now (self .entry)) .boards b .entries) entry no-entry ⌝ }
+    {
+        if entry >= self.settings.entries {
+            return NO_ENTRY;
+        }
+        read_in(self.entries, self.settings.entries, b, entry)
+    }
+}

@@ -1,0 +1,4 @@
+// The boards of a pack over lent memory: what each holds, and its elementary changes.
+pub mod core;
+pub mod flat;
+pub mod registers;

@@ -1,0 +1,2 @@
+// A pack: boards over lent memory and any wire, with any tally, and its calls.
+pub mod pack;

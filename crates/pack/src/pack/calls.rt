@@ -1,0 +1,32 @@
+// The calls: each refuses and changes nothing, or does the whole step.
+ghost use mathlib.Core.Path.{_≡_};
+ghost use Rattle.std.specs.Results.{Cases};
+ghost use Rattle.theory.specs.SetSlot.{set-slot};
+ghost use Rattle.pack.specs.Shown.{state};
+use super::Pack;
+use theory::fault::PackFault;
+use theory::memory::Cell;
+use wire::wire::Wire;
+
+impl<W: Wire, T> Pack<'_, W, T> {
+    // The slot becomes a value.
+    pub fn set(&mut self, board: u32, slot: u32, number: u32) -> Result<(), PackFault>
+        ensures after { λ r. ⌜ (state width capacity waiting (now (self .exit)), r) ≡ set-slot board slot number (state width capacity waiting (now (self .entry))) ⌝ }
+        ensures refused { λ r. ⌜ Cases r (λ _. Unit {0}) (λ _. now (self .exit) ≡ now (self .entry)) ⌝ }
+    {
+        if board >= self.core.settings.boards {
+            return Err(PackFault::NoBoard);
+        }
+        if slot > 7 {
+            return Err(PackFault::NoSlot);
+        }
+        if self.core.collecting(board) {
+            return Err(PackFault::Collecting);
+        }
+        if self.core.waits(board) {
+            return Err(PackFault::Waiting);
+        }
+        self.core.put_slot(board, slot, Cell::Value(number));
+        Ok(())
+    }
+}

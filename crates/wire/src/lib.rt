@@ -1,0 +1,3 @@
+// What carries messages between boards.
+pub mod line;
+pub mod wire;

@@ -1,0 +1,18 @@
+// A wire over one lent slice.
+use theory::message::Message;
+
+mod calls;
+
+// A message under way from one board to another.
+#[derive(Clone, Copy)]
+pub struct Letter {
+    pub from: u32,
+    pub to: u32,
+    pub message: Message,
+}
+
+#[derive(Drop)]
+pub struct Line<'a> {
+    letters: &'a mut [Letter],
+    boards: u32,
+}
