@@ -72,7 +72,7 @@ module _ {W : Type 0} (width capacity : W → ℕ) (waiting : W → Net) (p : Co
 
   -- other registers of one board
   abbrev with-registers : Registers → Core W
-  with-registers y = record { cells = p .cells; entries = p .entries; registers = set (p .registers) b y; settings = p .settings; lead = p .lead; result = p .result; wire = p .wire }
+  with-registers y = record { cells = p .cells; entries = p .entries; free = p .free; held = p .held; registers = set (p .registers) b y; settings = p .settings; lead = p .lead; result = p .result; wire = p .wire }
 
   pub registers-put : (d : Registers) (y : Registers → Registers) (f : Board → Board) → Sound p
       → ((r : Registers) (cs : List Cell) (es : List Entry) (fs : List ℕ) (hs : List Held) → look (y r) cs es fs hs ≡ f (look r cs es fs hs))
@@ -82,7 +82,7 @@ module _ {W : Type 0} (width capacity : W → ℕ) (waiting : W → Net) (p : Co
       let r = registers-of (p .registers) in
       let e = getD-default (p .registers) b d no-registers w in
       record {
-        sound = record { sized = (length-set (p .registers) b (y (getD (p .registers) b d)) ∙ s .sized .0, s .sized .1, s .sized .2, s .sized .3) };
+        sound = record { sized = (length-set (p .registers) b (y (getD (p .registers) b d)) ∙ s .sized .0, s .sized .1, s .sized .2, s .sized .3); laid = s .laid };
         settings = refl {a = p .settings};
         after = registers-changed (p .settings) (width (p .wire)) (capacity (p .wire)) (waiting (p .wire)) (p .lead) (p .result) b l
             r (cells-of p) (entries-of p) (free-of p) (held-of p)

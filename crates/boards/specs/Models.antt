@@ -5,6 +5,7 @@ use mathlib.Core.List.{List, []}
 use Prim.Native.Nat.{ℕ, _*_, _<_, _≤_, zero-le}
 use lib.ListN.{getD, length, replicate}
 use denote.Ref.{now}
+use Rattle.queue.specs.QueuesOf.{queues, count-of, each-of, places-len}
 use Rattle.theory.specs.declared.memory.Cell.{Cell}
 use Rattle.theory.specs.declared.memory.Cell.the-variants.{Value}
 use Rattle.theory.specs.declared.memory.Entry.{Entry}
@@ -50,6 +51,17 @@ module _ (t : Settings) (width capacity : ℕ) (net : Net) (lead : Lead) (result
     lead = lead; result = result;
   }
 
+-- what a set-up that is no refusal has found
+pub record Enough (b : Brought) (t : Settings) : Type 0 where
+  pub boards : t .boards ≤ 16
+  pub some : 0 < t .entries
+  pub few : t .entries ≤ 512
+  pub credit : t .credit ≤ 64
+  pub cells : t .boards * t .cells ≤ b .cells
+  pub entries : t .boards * t .entries ≤ b .entries
+  pub free : t .boards * t .entries ≤ b .free
+  pub held : t .boards * t .boards ≤ b .held
+
 abbrev pub registers-of : List Registers → ℕ → Registers
 registers-of l b = getD l b no-registers
 
@@ -58,8 +70,16 @@ module _ {W : Type 0} where
   abbrev pub Sized : Core W → Type 0
   Sized c = (length (c .registers) ≡ 16) × (c .settings .boards ≤ 16) × (c .settings .boards * c .settings .cells ≤ length (now (c .cells))) × (c .settings .boards * c .settings .entries ≤ length (now (c .entries)))
 
+  -- every board has a queue of its own, with a place for each entry, and one with a place for each board
+  abbrev pub Laid : Core W → Type 0
+  Laid c = (count-of (c .free) ≡ c .settings .boards) × (each-of (c .free) ≡ c .settings .entries) × (count-of (c .held) ≡ c .settings .boards) × (each-of (c .held) ≡ c .settings .boards)
+
   pub record Sound (c : Core W) : Type 0 where
     pub sized : Sized c
+    pub laid : Laid c
+
+  abbrev pub brought : Core W → Brought
+  brought c = record { cells = length (now (c .cells)); entries = length (now (c .entries)); free = places-len (c .free); held = places-len (c .held) }
 
   abbrev pub cells-of : Core W → ℕ → List Cell
   cells-of c = parts (now (c .cells)) (c .settings .cells)
@@ -68,10 +88,10 @@ module _ {W : Type 0} where
   entries-of c = parts (now (c .entries)) (c .settings .entries)
 
   abbrev pub free-of : Core W → ℕ → List ℕ
-  free-of c = λ _. []
+  free-of c = queues (c .free)
 
   abbrev pub held-of : Core W → ℕ → List Held
-  held-of c = λ _. []
+  held-of c = queues (c .held)
 
   module _ (width : W → ℕ) (capacity : W → ℕ) (waiting : W → Net) where
     abbrev pub model : Core W → State

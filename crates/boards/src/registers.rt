@@ -1,10 +1,16 @@
-// What a board keeps beside its memory.
+// What a board keeps beside its memory, and what there is before anything happened.
+ghost use mathlib.Core.Path.{_≡_};
+ghost use Prim.Native.Nat.{ℕ, _<_, _≤_};
+ghost use lib.ListN.{length};
+ghost use Rattle.boards.specs.Fresh.{fresh-at};
 use purse::Purse;
 use theory::memory::Cell;
 use theory::memory::Entry;
 use theory::memory::Mode;
 use theory::memory::Outcome;
 use theory::memory::Parent;
+use theory::state::Figures;
+use theory::state::Lead;
 use theory::state::Round;
 
 #[derive(Clone, Copy)]
@@ -27,3 +33,43 @@ pub const NO_ENTRY: Entry = Entry {
     gone: 0,
     owing: 0,
 };
+
+pub const NO_ROUND: Round = Round {
+    sent: 0,
+    answered: 0,
+    started: false,
+    shoves: 0,
+    ends: 0,
+    taken: 0,
+};
+
+pub const NO_FIGURES: Figures = Figures {
+    kept: 0,
+    messages: 0,
+    freed: 0,
+};
+
+pub const NO_LEAD: Lead = Lead {
+    closing: false,
+    awaited: 0,
+    wish: false,
+    figures: NO_FIGURES,
+};
+
+// Sixteen boards with nothing on them, each with so much credit.
+pub fn fresh_registers(credit: u32, most: u32) -> [Registers; 16]
+    requires { ⌜ credit ≤ most ⌝ }
+    ensures count { λ r. ⌜ length r ≡ 16 ⌝ }
+    ensures each { λ r. ⌜ ((b : ℕ) → b < 16 → fresh-at credit most r b) ⌝ }
+{
+    [Registers {
+        slots: [Cell::Value(0); 8],
+        top: 0,
+        waits: false,
+        outcome: Outcome::Done,
+        mode: Mode::Run,
+        requested: false,
+        purse: Purse::new(credit, most),
+        round: NO_ROUND,
+    }; 16]
+}

@@ -16,7 +16,7 @@ sum-to (suc n) f = sum-to n f + f n
 abbrev pub total : ℕ → Net → ℕ
 total n net = sum-to n (λ from. sum-to n (λ to. length (net from to)))
 
--- the room that a pack of n boards with credit k needs on its wire: the marking messages, one
--- operation for each board, and the messages of a collection's start and end
+-- the room that a pack of n boards with credit k needs on its wire: k * n marking messages, one operation for
+-- each board, and what a collection takes to be wanted, to start and to end
 abbrev pub needed : ℕ → ℕ → ℕ
 needed n k = n * (k + 1) + (n - 1) * (n + 3)

@@ -3,8 +3,8 @@ ghost use mathlib.Core.Path.{_≡_};
 ghost use Prim.Native.Nat.{_+_, _<_, _≤_};
 ghost use lib.ListN.{set};
 ghost use Rattle.theory.specs.declared.memory.Cell.the-variants.{Value};
-ghost use Rattle.theory.specs.Lists.{wiped};
-ghost use Rattle.theory.specs.State.{with-cells, with-entries, with-slots, with-top};
+ghost use Rattle.theory.specs.Lists.{tail, wiped};
+ghost use Rattle.theory.specs.State.{with-cells, with-entries, with-free, with-slots, with-top};
 ghost use Rattle.boards.specs.Models.{model, Changed, Sound};
 use super::Core;
 use crate::flat::store_in;
@@ -49,5 +49,14 @@ impl<W: Wire> Core<'_, W> {
         ensures { λ _. ⌜ Changed width capacity waiting (now (self .entry)) (now (self .exit)) b (with-top v) ⌝ }
     {
         self.registers[b as usize].top = v;
+    }
+
+    // The first free entry leaves its queue.
+    pub fn take_free(&mut self, b: u32)
+        requires sound { ⌜ Sound (now self) ⌝ }
+        requires board { ⌜ b < now self .settings .boards ⌝ }
+        ensures { λ _. ⌜ Changed width capacity waiting (now (self .entry)) (now (self .exit)) b (λ x. with-free (tail (x .free)) x) ⌝ }
+    {
+        let _ = self.free.pop(b as usize);
     }
 }

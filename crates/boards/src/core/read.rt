@@ -2,8 +2,10 @@
 ghost use mathlib.Core.Path.{_≡_};
 ghost use Prim.Native.Nat.{_<_};
 ghost use lib.ListN.{getD};
+ghost use Rattle.std.specs.shelf.Maps.{nth};
 ghost use Rattle.theory.specs.declared.memory.Cell.the-variants.{Value};
 ghost use Rattle.theory.specs.Answer.{collecting};
+ghost use Rattle.theory.specs.Lists.{head};
 ghost use Rattle.theory.specs.State.{no-entry};
 ghost use Rattle.boards.specs.Models.{model, Sound};
 use super::Core;
@@ -101,5 +103,21 @@ impl<W: Wire> Core<'_, W> {
             return NO_ENTRY;
         }
         read_in(self.entries, self.settings.entries, b, entry)
+    }
+
+    // The free entry that is taken next.
+    pub fn first_free(&self, b: u32) -> Option<u16>
+        requires { ⌜ b < now self .settings .boards ⌝ }
+        ensures { λ r. ⌜ r ≡ head (model width capacity waiting (now (self .entry)) .boards b .free) ⌝ }
+    {
+        self.free.first(b as usize)
+    }
+
+    // The free entry at a place of the queue.
+    pub fn free_at(&self, b: u32, i: usize) -> Option<u16>
+        requires { ⌜ b < now self .settings .boards ⌝ }
+        ensures { λ r. ⌜ r ≡ nth (model width capacity waiting (now (self .entry)) .boards b .free) i ⌝ }
+    {
+        self.free.get(b as usize, i)
     }
 }

@@ -1,0 +1,1 @@
+-- Registers of a board with nothing on it.

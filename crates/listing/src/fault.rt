@@ -1,0 +1,46 @@
+// Why a line is refused: the wire's fault in the pack's, the pack's in the line's.
+ghost use mathlib.Core.Path.{_≡_};
+ghost use Rattle.listing.specs.declared.fault.Refusal.the-variants.{Pack};
+ghost use Rattle.listing.specs.Numbers.{number};
+use theory::fault::PackFault;
+use theory::fault::PackFaultDebug;
+use theory::fault::PackFaultEq;
+use theory::fault::PackFaultPartialEq;
+
+#[derive(Clone, Copy, PartialEq, Eq, Debug)]
+pub enum Refusal {
+    Size,
+    Names,
+    Values,
+    Code,
+    Pack(PackFault),
+}
+
+pub impl From<PackFault> for Refusal as PackInLine {
+    ghost converts = { λ e r. r ≡ Pack e };
+
+    fn from(fault: PackFault) -> Refusal {
+        Refusal::Pack(fault)
+    }
+}
+
+#[derive(Clone, Copy, PartialEq, Eq, Debug)]
+pub struct LineFault {
+    pub line: usize,
+    pub refusal: Refusal,
+}
+
+impl Refusal {
+    // The number by which a refusal is known outside.
+    pub fn number(self) -> u8
+        ensures { λ r. ⌜ r ≡ number self ⌝ }
+    {
+        match self {
+            Refusal::Size => 1,
+            Refusal::Names => 2,
+            Refusal::Values => 3,
+            Refusal::Code => 4,
+            Refusal::Pack(fault) => fault.number(),
+        }
+    }
+}

@@ -1,0 +1,3 @@
+// A file of calls, and its listing.
+pub mod fault;
+pub mod row;
