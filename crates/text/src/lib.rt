@@ -1,0 +1,2 @@
+// Reading lines of numbers, and writing a listing into a lent place.
+pub mod writer;
