@@ -1,0 +1,4 @@
+// Reading lines of numbers, and writing a listing into a lent place.
+pub mod fields;
+pub mod reader;
+pub mod writer;
