@@ -65,6 +65,17 @@ pub record Enough (b : Brought) (t : Settings) : Type 0 where
 abbrev pub registers-of : List Registers → ℕ → Registers
 registers-of l b = getD l b no-registers
 
+-- a board with so much credit and nothing else
+abbrev pub bare : ℕ → ℕ → Board
+bare credit most = record {
+  slots = replicate 8 (Value 0); top = 0; cells = []; entries = []; free = [];
+  held = []; waits = false; outcome = Done;
+  mode = Run; requested = false; purse = record { have = credit; most = most }; round = no-round;
+}
+
+abbrev pub Bare : ℕ → ℕ → List Registers → ℕ → Type 0
+Bare credit most l b = look (registers-of l b) [] [] [] [] ≡ bare credit most
+
 module _ {W : Type 0} where
   -- the lent slices have a part for each board
   abbrev pub Sized : Core W → Type 0

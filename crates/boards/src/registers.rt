@@ -2,7 +2,7 @@
 ghost use mathlib.Core.Path.{_≡_};
 ghost use Prim.Native.Nat.{ℕ, _<_, _≤_};
 ghost use lib.ListN.{length};
-ghost use Rattle.boards.specs.Fresh.{fresh-at};
+ghost use Rattle.boards.specs.Models.{Bare};
 use purse::Purse;
 use theory::memory::Cell;
 use theory::memory::Entry;
@@ -60,7 +60,7 @@ pub const NO_LEAD: Lead = Lead {
 pub fn fresh_registers(credit: u32, most: u32) -> [Registers; 16]
     requires { ⌜ credit ≤ most ⌝ }
     ensures count { λ r. ⌜ length r ≡ 16 ⌝ }
-    ensures each { λ r. ⌜ ((b : ℕ) → b < 16 → fresh-at credit most r b) ⌝ }
+    ensures each { λ r. ⌜ ((b : ℕ) → b < 16 → Bare credit most r b) ⌝ }
 {
     [Registers {
         slots: [Cell::Value(0); 8],

@@ -1,3 +1,4 @@
 // A file of calls, and its listing.
 pub mod fault;
+pub mod print;
 pub mod row;

@@ -1,1 +1,0 @@
--- Registers of a board with nothing on it.
