@@ -16,7 +16,7 @@ use Rattle.boards.specs.declared.registers.Registers.{Registers}
 use Rattle.boards.specs.Models.{look, looks, shown, seen}
 
 module _ (t : Settings) (width capacity : ℕ) (net : Net) (lead : Lead) (result : Figures) (b : ℕ) (l : b < t .boards)
-  (r : ℕ → Registers) (cs : ℕ → List Cell) (es : ℕ → List Entry) (fs : ℕ → List ℕ) (hs : ℕ → List Held) where
+    (r : ℕ → Registers) (cs : ℕ → List Cell) (es : ℕ → List Entry) (fs : ℕ → List ℕ) (hs : ℕ → List Held) where
   abbrev this : State
   this = seen t width capacity net lead result r cs es fs hs
 

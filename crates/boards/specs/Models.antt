@@ -30,9 +30,18 @@ no-registers = record { slots = []; top = 0; waits = false; outcome = Done; mode
 -- a board by its registers and its parts
 abbrev pub look : Registers → List Cell → List Entry → List ℕ → List Held → Board
 look r cs es fs hs = record {
-  slots = r .slots; top = r .top; cells = cs; entries = es; free = fs;
-  held = hs; waits = r .waits; outcome = r .outcome;
-  mode = r .mode; requested = r .requested; purse = record { have = r .purse .have; most = r .purse .most }; round = r .round;
+  slots = r .slots;
+  top = r .top;
+  cells = cs;
+  entries = es;
+  free = fs;
+  held = hs;
+  waits = r .waits;
+  outcome = r .outcome;
+  mode = r .mode;
+  requested = r .requested;
+  purse = record { have = r .purse .have; most = r .purse .most };
+  round = r .round;
 }
 
 -- every board by the registers and the parts
@@ -46,9 +55,13 @@ shown n r cs es fs hs = masked n no-board (looks r cs es fs hs)
 module _ (t : Settings) (width capacity : ℕ) (net : Net) (lead : Lead) (result : Figures) where
   abbrev pub seen : (ℕ → Registers) → (ℕ → List Cell) → (ℕ → List Entry) → (ℕ → List ℕ) → (ℕ → List Held) → State
   seen r cs es fs hs = record {
-    settings = t; boards = shown (t .boards) r cs es fs hs;
-    width = width; capacity = capacity; net = net;
-    lead = lead; result = result;
+    settings = t;
+    boards = shown (t .boards) r cs es fs hs;
+    width = width;
+    capacity = capacity;
+    net = net;
+    lead = lead;
+    result = result;
   }
 
 -- what a set-up that is no refusal has found
@@ -68,9 +81,18 @@ registers-of l b = getD l b no-registers
 -- a board with so much credit and nothing else
 abbrev pub bare : ℕ → ℕ → Board
 bare credit most = record {
-  slots = replicate 8 (Value 0); top = 0; cells = []; entries = []; free = [];
-  held = []; waits = false; outcome = Done;
-  mode = Run; requested = false; purse = record { have = credit; most = most }; round = no-round;
+  slots = replicate 8 (Value 0);
+  top = 0;
+  cells = [];
+  entries = [];
+  free = [];
+  held = [];
+  waits = false;
+  outcome = Done;
+  mode = Run;
+  requested = false;
+  purse = record { have = credit; most = most };
+  round = no-round;
 }
 
 abbrev pub Bare : ℕ → ℕ → List Registers → ℕ → Type 0

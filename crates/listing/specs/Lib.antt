@@ -1,3 +1,4 @@
 pub mod Lines
+pub mod Listing
 pub mod Numbers
 pub mod Printed

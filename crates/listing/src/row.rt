@@ -39,7 +39,13 @@ impl Row {
     pub fn call(self) -> Option<Call>
         ensures { λ r. ⌜ r ≡ call-of self ⌝ }
     {
-        let Row { code, board, a, b, .. } = self;
+        let Row {
+            code,
+            board,
+            a,
+            b,
+            ..
+        } = self;
         if code == 1 {
             return Some(Call::Make {
                 board,
