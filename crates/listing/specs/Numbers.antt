@@ -18,3 +18,6 @@ number (Pack e) = pack.number e
 abbrev pub printed : Result ℕ Refusal → ℕ
 printed (Ok n) = n
 printed (Err e) = number e
+
+abbrev pub at-line : ℕ → Refusal → LineFault
+at-line line e = record { line = line; refusal = e }

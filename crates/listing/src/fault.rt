@@ -1,7 +1,8 @@
 // Why a line is refused: the wire's fault in the pack's, the pack's in the line's.
 ghost use mathlib.Core.Path.{_≡_};
 ghost use Rattle.listing.specs.declared.fault.Refusal.the-variants.{Pack};
-ghost use Rattle.listing.specs.Numbers.{number};
+ghost use Rattle.std.specs.Results.{mapped};
+ghost use Rattle.listing.specs.Numbers.{at-line, number};
 use theory::fault::PackFault;
 use theory::fault::PackFaultDebug;
 use theory::fault::PackFaultEq;
@@ -42,5 +43,18 @@ impl Refusal {
             Refusal::Code => 4,
             Refusal::Pack(fault) => fault.number(),
         }
+    }
+}
+
+// What a call answered, with the line that it was made for.
+pub fn on_line<T>(line: usize, r: Result<T, PackFault>) -> Result<T, LineFault>
+    ensures { λ s. ⌜ s ≡ mapped (λ x. x) (λ e. at-line line (Pack e)) r ⌝ }
+{
+    match r {
+        Ok(x) => Ok(x),
+        Err(fault) => Err(LineFault {
+            line,
+            refusal: Refusal::from(fault),
+        }),
     }
 }

@@ -1,4 +1,5 @@
 // A file of calls, and its listing.
+pub mod expect;
 pub mod fault;
 pub mod print;
 pub mod row;
