@@ -1,0 +1,126 @@
+-- Queues over the parts of one list: what a call at one of them finds, and what it makes of all.
+use mathlib.Core.Path.{_≡_, refl, sym, ap, ap₂, fun-ext, _∙_}
+use mathlib.Core.Bool.{true, false}
+use mathlib.Core.List.{List, [], _∷_, _++_}
+use mathlib.Core.Logic.{_⊎_, inl, inr}
+use Prim.Native.Nat.{ℕ, _+_, _*_, _<_, _≤_}
+use native.Mathlib.Omega.{arith}
+use lib.ListN.{length, getD, set, length-set}
+use Rattle.std.specs.declared.option.Option.the-variants.{Some, None}
+use Rattle.std.specs.shelf.Maps.{nth}
+use Rattle.std.proofs.shelf.Lists.{getD-set-same, getD-set-other, getD-default}
+use Rattle.std.proofs.shelf.Tests.{cases-lt, lt-ltb, le-ltb, and-from, and-left, and-right}
+use Rattle.theory.specs.Functions.{put, masked}
+use Rattle.theory.specs.Lists.{parts, head, tail}
+use Rattle.theory.proofs.Functions.{put-is, put-own, masked-in, masked-out}
+use Rattle.theory.proofs.Parts.{ends-within, length-parts, getD-parts, parts-set-other, parts-set-same}
+use Rattle.queue.specs.declared.queues.Queues.{Queues}
+use Rattle.queue.specs.declared.ring.Ring.{Ring}
+use Rattle.queue.specs.Pushes.{has-room-at}
+use Rattle.queue.specs.Rings.{items, no-ring, Placed, Pushed, Popped}
+use Rattle.queue.specs.QueuesOf.{queue-at, queues}
+use Rattle.queue.proofs.Rings.{length-items, items-none, items-pushed, items-popped, nth-placed, nth-missing}
+
+-- cut off from n on, a function that differs from f at i alone
+masked-put : {A : Type 0} (n : ℕ) (d : A) (f g : ℕ → A) (i : ℕ) (a : A) → i < n → ((j : ℕ) → j < n → (j ≡ i → ⊥) → g j ≡ f j) → g i ≡ a
+    → masked n d g ≡ put (masked n d f) i a
+masked-put n d f g i a l same here = put-is (masked n d f) (masked n d g) i a (λ j ne. go j ne (cases-lt j n)) (masked-in n d g i l ∙ here)
+  where
+    go : (j : ℕ) → (j ≡ i → ⊥) → (j < n) ⊎ (n ≤ j) → masked n d g j ≡ masked n d f j
+    go j ne (inl h) = masked-in n d g j h ∙ same j h ne ∙ sym (masked-in n d f j h)
+    go j ne (inr h) = masked-out n d g j h ∙ sym (masked-out n d f j h)
+
+-- where every ring is empty
+pub queues-none : {T : Type 0} (rings : List Ring) (count each : ℕ) (xs : List T) → ((k : ℕ) → k < count → getD rings k no-ring .len ≡ 0)
+    → masked count [] (queue-at rings each xs) ≡ (λ _. [])
+queues-none rings count each xs none = fun-ext (λ k. go k (cases-lt k count))
+  where
+    go : (k : ℕ) → (k < count) ⊎ (count ≤ k) → masked count [] (queue-at rings each xs) k ≡ []
+    go k (inl l) = masked-in count [] (queue-at rings each xs) k l ∙ items-none (parts xs each k) (getD rings k no-ring) (none k l)
+    go k (inr h) = masked-out count [] (queue-at rings each xs) k h
+
+-- where there is no queue b
+module _ {T : Type 0} (q : Queues T) (b : ℕ) (h : q .count ≤ b) where
+  pub queue-past : queues q b ≡ []
+  queue-past = masked-out (q .count) [] (queue-at (q .rings) (q .each) (q .places .now)) b h
+
+  pub queues-kept : queues q ≡ put (queues q) b (tail (queues q b))
+  queues-kept = put-own (queues q) b (tail (queues q b)) (queue-past ∙ sym (ap tail queue-past))
+
+-- where there is: d is what the ring was read at, which does not count
+module _ {T : Type 0} (q : Queues T) (b : ℕ) (l : b < q .count) (d : Ring) where
+  abbrev xs : List T
+  xs = q .places .now
+
+  abbrev r : Ring
+  r = getD (q .rings) b d
+
+  lb : b < length (q .rings)
+  lb = omega arith
+
+  is : getD (q .rings) b no-ring ≡ r
+  is = getD-default (q .rings) b no-ring d lb
+
+  within : b * q .each + q .each ≤ length xs
+  within = omega (arith, ends-within b (q .count) (q .each) l)
+
+  pub ring-room : r .room ≡ q .each
+  ring-room = ap (λ s. s .room) (sym is) ∙ q .rooms b (omega arith)
+
+  room : length (parts xs (q .each) b) ≡ r .room
+  room = length-parts xs (q .each) b within ∙ sym ring-room
+
+  here : queues q b ≡ items (parts xs (q .each) b) r
+  here = masked-in (q .count) [] (queue-at (q .rings) (q .each) xs) b l ∙ ap (items (parts xs (q .each) b)) is
+
+  pub length-queue : length (queues q b) ≡ r .len
+  length-queue = ap length here ∙ length-items (parts xs (q .each) b) r room
+
+  pub queue-empty : r .len ≡ 0 → queues q b ≡ []
+  queue-empty e = here ∙ items-none (parts xs (q .each) b) r e
+
+  -- a pop of an empty queue
+  pub queues-same : r .len ≡ 0 → queues q ≡ put (queues q) b (tail (queues q b))
+  queues-same e = put-own (queues q) b (tail (queues q b)) (queue-empty e ∙ sym (ap tail (queue-empty e)))
+
+  pub nth-queue : (i at : ℕ) (x : T) → Placed r i at → x ≡ getD xs (b * q .each + at) x → nth (queues q b) i ≡ Some x
+  nth-queue i at x p e =
+      ap (λ z. nth z i) here
+      ∙ nth-placed (parts xs (q .each) b) r room i at x p (e ∙ sym (getD-parts xs (q .each) b at x (omega (arith, ring-room, p .within))))
+
+  pub nth-queue-past : (i : ℕ) → r .len ≤ i → nth (queues q b) i ≡ None
+  nth-queue-past i h = ap (λ z. nth z i) here ∙ nth-missing (parts xs (q .each) b) r room i h
+
+  pub queues-pushed : (s : Ring) (at : ℕ) (x : T) → Pushed r s at
+      → masked (q .count) [] (queue-at (set (q .rings) b s) (q .each) (set xs (b * q .each + at) x)) ≡ put (queues q) b (queues q b ++ x ∷ [])
+  queues-pushed s at x p =
+      masked-put (q .count) [] (queue-at (q .rings) (q .each) xs) (queue-at (set (q .rings) b s) (q .each) (set xs (b * q .each + at) x)) b (queues q b ++ x ∷ []) l
+      (λ j lj ne.
+      ap₂ items
+      (parts-set-other xs (q .each) b at x within less j (omega (arith, ends-within j (q .count) (q .each) lj)) ne)
+      (getD-set-other (q .rings) b j s no-ring ne))
+      (ap₂ items (parts-set-same xs (q .each) b at x within less) (getD-set-same (q .rings) b s no-ring lb)
+      ∙ items-pushed (parts xs (q .each) b) r room s at x p
+      ∙ ap (λ z. z ++ x ∷ []) (sym here))
+    where
+      less : at < q .each
+      less = omega (arith, ring-room, p .within)
+
+  pub queue-first : (s : Ring) (at : ℕ) (x : T) → Popped r s at → x ≡ getD xs (b * q .each + at) x
+      → queues q b ≡ x ∷ items (parts xs (q .each) b) s
+  queue-first s at x p e =
+      here ∙ items-popped (parts xs (q .each) b) r room s at x p
+      ∙ ap (λ z. z ∷ items (parts xs (q .each) b) s) (getD-parts xs (q .each) b at x (omega (arith, ring-room, p .within)) ∙ sym e)
+
+  pub queues-popped : (s : Ring) (at : ℕ) (x : T) → Popped r s at → x ≡ getD xs (b * q .each + at) x
+      → masked (q .count) [] (queue-at (set (q .rings) b s) (q .each) xs) ≡ put (queues q) b (tail (queues q b))
+  queues-popped s at x p e =
+      masked-put (q .count) [] (queue-at (q .rings) (q .each) xs) (queue-at (set (q .rings) b s) (q .each) xs) b (tail (queues q b)) l
+      (λ j lj ne. ap (items (parts xs (q .each) j)) (getD-set-other (q .rings) b j s no-ring ne))
+      (ap (items (parts xs (q .each) b)) (getD-set-same (q .rings) b s no-ring lb) ∙ sym (ap tail (queue-first s at x p e)))
+
+  pub has-room-yes : r .len < r .room → has-room-at (q .count) (q .each) b (queues q) ≡ true
+  has-room-yes h = and-from _ _ (lt-ltb b (q .count) l) (lt-ltb (length (queues q b)) (q .each) (omega (arith, length-queue, ring-room)))
+
+  pub has-room-no : r .len ≡ r .room → has-room-at (q .count) (q .each) b (queues q) ≡ false
+  has-room-no h = and-right _ _ (le-ltb (length (queues q b)) (q .each) (omega (arith, length-queue, ring-room)))
