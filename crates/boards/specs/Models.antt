@@ -66,6 +66,7 @@ module _ (t : Settings) (width capacity : ℕ) (net : Net) (lead : Lead) (result
 
 -- what a set-up that is no refusal has found
 pub record Enough (b : Brought) (t : Settings) : Type 0 where
+  pub one : 1 ≤ t .boards
   pub boards : t .boards ≤ 16
   pub some : 0 < t .entries
   pub few : t .entries ≤ 512

@@ -4,6 +4,7 @@ ghost use Rattle.theory.specs.SetUp.{started};
 ghost use Rattle.boards.specs.Models.{model, brought, Enough, Sound};
 use super::Core;
 use crate::flat::fill;
+use crate::numbering::number_all;
 use crate::registers::NO_ENTRY;
 use crate::registers::NO_FIGURES;
 use crate::registers::NO_LEAD;
@@ -22,7 +23,7 @@ impl<W: Wire> Core<'_, W> {
     {
         fill(self.cells, Cell::Value(0));
         fill(self.entries, NO_ENTRY);
-        let _ = self.free.number(t.boards as usize, t.entries as u16);
+        number_all(&mut self.free, t.boards as usize, t.entries as u16);
         let _ = self.held.lay_out(t.boards as usize, t.boards as usize);
         self.registers = fresh_registers(t.credit, t.credit * t.boards);
         self.settings = t;
