@@ -65,12 +65,13 @@ module _ (t : Settings) (width capacity : ℕ) (net : Net) (lead : Lead) (result
   }
 
 -- what a set-up that is no refusal has found
-pub record Enough (b : Brought) (t : Settings) : Type 0 where
+pub record InRange (t : Settings) : Type 0 where
   pub one : 1 ≤ t .boards
   pub boards : t .boards ≤ 16
-  pub some : 0 < t .entries
-  pub few : t .entries ≤ 512
+  pub entries : t .entries ≤ 512
   pub credit : t .credit ≤ 64
+
+pub record Enough (b : Brought) (t : Settings) : Type 0 where
   pub cells : t .boards * t .cells ≤ b .cells
   pub entries : t .boards * t .entries ≤ b .entries
   pub free : t .boards * t .entries ≤ b .free

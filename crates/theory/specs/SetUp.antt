@@ -1,15 +1,17 @@
 -- Set-up: a pack with nothing in it, over the memory and the wire that were brought.
 use Prim.Native.Nat.{ℕ, _*_}
-use mathlib.Core.Bool.{false}
+use mathlib.Core.Bool.{Bool, false, cond}
 use mathlib.Core.List.{[]}
 use lib.Dec.{ltb}
 use lib.ListN.{replicate}
+use Rattle.std.specs.declared.result.Result.the-variants.{Ok, Err}
+use Rattle.theory.specs.declared.fault.PackFault.{PackFault}
 use Rattle.theory.specs.declared.fault.PackFault.the-variants.{Setting, Memory, SmallWire, BusyWire}
 use Rattle.theory.specs.declared.memory.Cell.the-variants.{Value}
 use Rattle.theory.specs.declared.memory.Mode.the-variants.{Run}
 use Rattle.theory.specs.declared.memory.Outcome.the-variants.{Done}
 use Rattle.theory.specs.declared.state.Settings.{Settings}
-use Rattle.theory.specs.Answer.{Answer, accepted, unless}
+use Rattle.theory.specs.Answer.{Answer, accepted, refused}
 use Rattle.theory.specs.Functions.{masked}
 use Rattle.theory.specs.Lists.{below}
 use Rattle.theory.specs.Net.{Net, total, needed}
@@ -63,21 +65,45 @@ blank width capacity net = record {
   result = no-figures;
 }
 
+-- a fault where the test holds, and else what comes next
+abbrev pub fault-if : Bool → PackFault → Answer → Answer
+fault-if test e next = cond test (Err e) next
+
+-- 1 to 16 boards, 2 to 4096 cells, 1 to 512 entries and a credit of 1 to 64
+abbrev pub ranges : Settings → Answer
+ranges t =
+    fault-if (ltb (t .boards) 1) Setting
+    (fault-if (ltb 16 (t .boards)) Setting
+    (fault-if (ltb (t .cells) 2) Setting
+    (fault-if (ltb 4096 (t .cells)) Setting
+    (fault-if (ltb (t .entries) 1) Setting
+    (fault-if (ltb 512 (t .entries)) Setting
+    (fault-if (ltb (t .credit) 1) Setting
+    (fault-if (ltb 64 (t .credit)) Setting (Ok tt))))))))
+
+-- memory for every board
+abbrev pub memory-enough : Brought → Settings → Answer
+memory-enough brought t =
+    fault-if (ltb (brought .cells) (t .boards * t .cells)) Memory
+    (fault-if (ltb (brought .entries) (t .boards * t .entries)) Memory
+    (fault-if (ltb (brought .free) (t .boards * t .entries)) Memory
+    (fault-if (ltb (brought .held) (t .boards * t .boards)) Memory (Ok tt))))
+
+-- a wire that joins the boards, has the room that they need, and carries nothing yet
+abbrev pub wire-enough : ℕ → ℕ → Net → Settings → Answer
+wire-enough width capacity net t =
+    fault-if (ltb width (t .boards)) SmallWire
+    (fault-if (ltb capacity (needed (t .boards) (t .credit))) SmallWire
+    (fault-if (ltb 0 (total width net)) BusyWire (Ok tt)))
+
+-- goes on where nothing was found
+abbrev pub unless-fault : Answer → State → State × Answer → State × Answer
+unless-fault (Ok _) s next = next
+unless-fault (Err e) s next = refused e s
+
 abbrev pub set-up : Brought → Settings → State → State × Answer
 set-up brought t s =
-    unless (ltb (t .boards) 1) Setting s
-    (unless (ltb 16 (t .boards)) Setting s
-    (unless (ltb (t .cells) 2) Setting s
-    (unless (ltb 4096 (t .cells)) Setting s
-    (unless (ltb (t .entries) 1) Setting s
-    (unless (ltb 512 (t .entries)) Setting s
-    (unless (ltb (t .credit) 1) Setting s
-    (unless (ltb 64 (t .credit)) Setting s
-    (unless (ltb (brought .cells) (t .boards * t .cells)) Memory s
-    (unless (ltb (brought .entries) (t .boards * t .entries)) Memory s
-    (unless (ltb (brought .free) (t .boards * t .entries)) Memory s
-    (unless (ltb (brought .held) (t .boards * t .boards)) Memory s
-    (unless (ltb (s .width) (t .boards)) SmallWire s
-    (unless (ltb (s .capacity) (needed (t .boards) (t .credit))) SmallWire s
-    (unless (ltb 0 (total (s .width) (s .net))) BusyWire s
-    (accepted (started t s))))))))))))))))
+    unless-fault (ranges t) s
+    (unless-fault (memory-enough brought t) s
+    (unless-fault (wire-enough (s .width) (s .capacity) (s .net) t) s
+    (accepted (started t s))))

@@ -51,6 +51,13 @@ impl<'a, T: Copy> Queues<'a, T> {
         Ok(())
     }
 
+    // How many places all queues have to share.
+    pub fn places(&self) -> usize
+        ensures { λ r. ⌜ r ≡ places-len (now (self .entry)) ⌝ }
+    {
+        self.places.len()
+    }
+
     // How many items queue b has: none where there is no such queue.
     pub fn len(&self, b: usize) -> usize
         ensures { λ r. ⌜ r ≡ length (queues (now (self .entry)) b) ⌝ }
