@@ -10,7 +10,8 @@ use Rattle.theory.specs.declared.memory.Cell.{Cell}
 use Rattle.theory.specs.declared.memory.Entry.{Entry}
 use Rattle.theory.specs.declared.message.Held.{Held}
 use Rattle.theory.specs.Net.{Net}
-use Rattle.theory.specs.State.{Board, change}
+use Rattle.theory.specs.Functions.{put}
+use Rattle.theory.specs.State.{Board, with-boards, change}
 use Rattle.theory.proofs.Functions.{set-put}
 use Rattle.theory.proofs.Parts.{ends-within, length-parts}
 use Rattle.theory.proofs.States.{change-change}
@@ -29,6 +30,15 @@ _then_ {width = width} {capacity = capacity} {waiting = waiting} {p = p} {b = b}
   after = k .after ∙ ap (change b g) (h .after) ∙ change-change b f g (model width capacity waiting p);
 }
 
+-- the same change, said in another way for the board as it is
+pub changed-alike : {W : Type 0} {width capacity : W → ℕ} {waiting : W → Net} {p q : Core W} {b : ℕ} {f g : Board → Board}
+    → Changed width capacity waiting p q b f → f (model width capacity waiting p .boards b) ≡ g (model width capacity waiting p .boards b) → Changed width capacity waiting p q b g
+changed-alike {width = width} {capacity = capacity} {waiting = waiting} {p = p} {b = b} h e = record {
+  sound = h .sound;
+  settings = h .settings;
+  after = h .after ∙ ap (λ x. with-boards (put (model width capacity waiting p .boards) b x) (model width capacity waiting p)) e;
+}
+
 module _ {W : Type 0} (width capacity : W → ℕ) (waiting : W → Net) (p : Core W) (b : ℕ) (l : b < p .settings .boards) where
   abbrev pub board-of : Board
   board-of = looks (registers-of (p .registers)) (cells-of p) (entries-of p) (free-of p) (held-of p) b
@@ -43,17 +53,17 @@ module _ {W : Type 0} (width capacity : W → ℕ) (waiting : W → Net) (p : Co
       → ((r : Registers) (cs : List Cell) (es : List Entry) (fs : List ℕ) (hs : List Held) → f (look r cs es fs hs) ≡ h r)
       → h (getD (p .registers) b d) ≡ f (model width capacity waiting p .boards b)
   register-read f h d s same =
-      let w : b < length (p .registers) = omega (arith, s .sized .0, s .sized .1) in
+      let w : b < length (p .registers) = omega (arith, s .sized .0, s .ranged .0) in
       ap h (getD-default (p .registers) b d no-registers w)
       ∙ sym (same (registers-of (p .registers) b) (cells-of p b) (entries-of p b) (free-of p b) (held-of p b))
       ∙ ap f (sym board-is)
 
   -- the part of board b ends within the lent slice
   pub cells-end : Sound p → b * p .settings .cells + p .settings .cells ≤ length (now (p .cells))
-  cells-end s = omega (arith, ends-within b (p .settings .boards) (p .settings .cells) l, s .sized .2)
+  cells-end s = omega (arith, ends-within b (p .settings .boards) (p .settings .cells) l, s .sized .1)
 
   pub entries-end : Sound p → b * p .settings .entries + p .settings .entries ≤ length (now (p .entries))
-  entries-end s = omega (arith, ends-within b (p .settings .boards) (p .settings .entries) l, s .sized .3)
+  entries-end s = omega (arith, ends-within b (p .settings .boards) (p .settings .entries) l, s .sized .2)
 
   -- a read of the parts, and one past their end
   pub cell-read : (at : ℕ) (d r : Cell) → r ≡ getD (cells-of p b) at d → r ≡ getD (model width capacity waiting p .boards b .cells) at d
@@ -78,11 +88,11 @@ module _ {W : Type 0} (width capacity : W → ℕ) (waiting : W → Net) (p : Co
       → ((r : Registers) (cs : List Cell) (es : List Entry) (fs : List ℕ) (hs : List Held) → look (y r) cs es fs hs ≡ f (look r cs es fs hs))
       → Changed width capacity waiting p (with-registers (y (getD (p .registers) b d))) b f
   registers-put d y f s here =
-      let w : b < length (p .registers) = omega (arith, s .sized .0, s .sized .1) in
+      let w : b < length (p .registers) = omega (arith, s .sized .0, s .ranged .0) in
       let r = registers-of (p .registers) in
       let e = getD-default (p .registers) b d no-registers w in
       record {
-        sound = record { sized = (length-set (p .registers) b (y (getD (p .registers) b d)) ∙ s .sized .0, s .sized .1, s .sized .2, s .sized .3); laid = s .laid };
+        sound = record { ranged = s .ranged; sized = (length-set (p .registers) b (y (getD (p .registers) b d)) ∙ s .sized .0, s .sized .1, s .sized .2); laid = s .laid };
         settings = refl {a = p .settings};
         after = registers-changed (p .settings) (width (p .wire)) (capacity (p .wire)) (waiting (p .wire)) (p .lead) (p .result) b l
             r (cells-of p) (entries-of p) (free-of p) (held-of p)

@@ -64,12 +64,14 @@ module _ (t : Settings) (width capacity : ℕ) (net : Net) (lead : Lead) (result
     result = result;
   }
 
+-- settings that are not too large
+abbrev pub Ranged : Settings → Type 0
+Ranged t = (t .boards ≤ 16) × (t .cells ≤ 4096) × (t .entries ≤ 512) × (t .credit ≤ 64)
+
 -- what a set-up that is no refusal has found
 pub record InRange (t : Settings) : Type 0 where
   pub one : 1 ≤ t .boards
-  pub boards : t .boards ≤ 16
-  pub entries : t .entries ≤ 512
-  pub credit : t .credit ≤ 64
+  pub ranged : Ranged t
 
 pub record Enough (b : Brought) (t : Settings) : Type 0 where
   pub cells : t .boards * t .cells ≤ b .cells
@@ -103,13 +105,14 @@ Bare credit most l b = look (registers-of l b) [] [] [] [] ≡ bare credit most
 module _ {W : Type 0} where
   -- the lent slices have a part for each board
   abbrev pub Sized : Core W → Type 0
-  Sized c = (length (c .registers) ≡ 16) × (c .settings .boards ≤ 16) × (c .settings .boards * c .settings .cells ≤ length (now (c .cells))) × (c .settings .boards * c .settings .entries ≤ length (now (c .entries)))
+  Sized c = (length (c .registers) ≡ 16) × (c .settings .boards * c .settings .cells ≤ length (now (c .cells))) × (c .settings .boards * c .settings .entries ≤ length (now (c .entries)))
 
   -- every board has a queue of its own, with a place for each entry, and one with a place for each board
   abbrev pub Laid : Core W → Type 0
   Laid c = (count-of (c .free) ≡ c .settings .boards) × (each-of (c .free) ≡ c .settings .entries) × (count-of (c .held) ≡ c .settings .boards) × (each-of (c .held) ≡ c .settings .boards)
 
   pub record Sound (c : Core W) : Type 0 where
+    pub ranged : Ranged (c .settings)
     pub sized : Sized c
     pub laid : Laid c
 

@@ -11,7 +11,7 @@ use theory::state::Settings;
 
 mod change;
 mod read;
-mod start;
+pub mod start;
 
 #[derive(Drop)]
 pub struct Core<'a, W> {

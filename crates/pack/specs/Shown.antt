@@ -7,9 +7,14 @@ use lib.ListN.{getD}
 use Rattle.std.specs.declared.option.Option.{Option}
 use Rattle.std.specs.declared.option.Option.the-variants.{Some, None}
 use Rattle.theory.specs.Net.{Net}
+use Rattle.theory.specs.SetUp.{Brought}
 use Rattle.theory.specs.State.{State, Board}
-use Rattle.boards.specs.Models.{model}
+use Rattle.boards.specs.Models.{model, brought}
 use Rattle.pack.specs.declared.pack.Pack.{Pack}
+
+-- how much memory the pack was brought
+abbrev pub memory : {W T : Type 0} → Pack W T → Brought
+memory p = brought (p .core)
 
 module _ {W T : Type 0} (width capacity : W → ℕ) (waiting : W → Net) where
   abbrev pub state : Pack W T → State

@@ -1,12 +1,15 @@
-ghost use Rattle.boards.specs.Models.{Sized};
+ghost use Rattle.boards.specs.Models.{Sized, Laid};
 use boards::core::Core;
 
 mod calls;
+mod perform;
 mod read;
+mod start;
 
 #[derive(Drop)]
 pub struct Pack<'a, W, T> {
     core: Core<'a, W>,
     tally: T,
     ghost sized: { Sized core },
+    ghost laid: { Laid core },
 }

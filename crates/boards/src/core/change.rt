@@ -4,13 +4,16 @@ ghost use Prim.Native.Nat.{_+_, _<_, _≤_};
 ghost use lib.ListN.{set};
 ghost use Rattle.theory.specs.declared.memory.Cell.the-variants.{Value};
 ghost use Rattle.theory.specs.Lists.{tail, wiped};
+ghost use Rattle.theory.specs.Make.{with-record};
 ghost use Rattle.theory.specs.State.{with-cells, with-entries, with-free, with-slots, with-top};
 ghost use Rattle.boards.specs.Models.{model, Changed, Sound};
 use super::Core;
 use crate::flat::store_in;
 use crate::flat::wipe_in;
+use crate::registers::NO_ENTRY;
 use theory::memory::Cell;
 use theory::memory::Entry;
+use theory::memory::Ref;
 use wire::wire::Wire;
 
 impl<W: Wire> Core<'_, W> {
@@ -58,5 +61,22 @@ impl<W: Wire> Core<'_, W> {
         ensures { λ _. ⌜ Changed width capacity waiting (now (self .entry)) (now (self .exit)) b (λ x. with-free (tail (x .free)) x) ⌝ }
     {
         let _ = self.free.pop(b as usize);
+    }
+
+    // A record of so many cells from the top up, described by the first free entry, which the slot refers to.
+    pub fn place_record(&mut self, b: u32, slot: u32, entry: u16, size: u32, place: u32)
+        requires sound { ⌜ Sound (now self) ⌝ }
+        requires board { ⌜ b < now self .settings .boards ⌝ }
+        requires slot { ⌜ slot < 8 ⌝ }
+        requires top { ⌜ place ≡ model width capacity waiting (now self) .boards b .top ⌝ }
+        requires places { ⌜ place + size ≤ now self .settings .cells ⌝ }
+        ensures { λ _. ⌜ Changed width capacity waiting (now (self .entry)) (now (self .exit)) b (with-record b slot size entry) ⌝ }
+    {
+        self.take_free(b);
+        self.wipe(b, place, size);
+        self.put_entry(b, entry, Entry { size, place, ..NO_ENTRY });
+        self.put_top(b, place + size);
+        let board = b as u16;
+        self.put_slot(b, slot, Cell::Ref(Ref { board, entry }));
     }
 }

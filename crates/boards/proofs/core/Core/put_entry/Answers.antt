@@ -18,7 +18,7 @@ returns g c =
     let p = c .args .self .now in
     let s = c .pre .sound .sized in
     record {
-      sound = record { sized = (s .0, s .1, s .2, omega (arith, s .3, c .store-in .ensures .room)); laid = c .pre .sound .laid };
+      sound = record { ranged = c .pre .sound .ranged; sized = (s .0, s .1, omega (arith, s .2, c .store-in .ensures .room)); laid = c .pre .sound .laid };
       settings = refl {a = p .settings};
       after = entries-changed (p .settings) (w .width (p .wire)) (w .capacity (p .wire)) (w .waiting (p .wire)) (p .lead) (p .result) (c .args .b) (c .pre .board)
           (registers-of (p .registers)) (cells-of p) (entries-of p) (free-of p) (held-of p)

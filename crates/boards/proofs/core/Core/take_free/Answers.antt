@@ -11,7 +11,7 @@ returns g c =
     let p = c .args .self .now in
     let s = c .pre .sound in
     record {
-      sound = record { sized = s .sized; laid = (c .pop .ensures .count ∙ s .laid .0, c .pop .ensures .each ∙ s .laid .1, s .laid .2, s .laid .3) };
+      sound = record { ranged = s .ranged; sized = s .sized; laid = (c .pop .ensures .count ∙ s .laid .0, c .pop .ensures .each ∙ s .laid .1, s .laid .2, s .laid .3) };
       settings = refl {a = p .settings};
       after = free-changed (p .settings) (w .width (p .wire)) (w .capacity (p .wire)) (w .waiting (p .wire)) (p .lead) (p .result) (c .args .b) (c .pre .board)
           (registers-of (p .registers)) (cells-of p) (entries-of p) (free-of p) (held-of p)
