@@ -4,6 +4,7 @@ use mathlib.Core.List.{List}
 use Prim.Native.Nat.{ℕ}
 use lib.Dec.{ltb}
 use lib.ListN.{getD}
+use Rattle.std.specs.shelf.Maps.{nth}
 use Rattle.std.specs.declared.option.Option.{Option}
 use Rattle.std.specs.declared.option.Option.the-variants.{Some, None}
 use Rattle.theory.specs.Net.{Net}
@@ -27,3 +28,7 @@ of-board f b s = cond (ltb b (s .settings .boards)) (Some (f (s .boards b))) Non
 -- an item of a board's list, of which there are `most`
 abbrev pub item : {A : Type 0} → (Board → List A) → ℕ → A → ℕ → ℕ → State → Option A
 item f most d b i s = cond (ltb b (s .settings .boards)) (cond (ltb i most) (Some (getD (f (s .boards b)) i d)) None) None
+
+-- the number at i among a board's free entries, the first to be taken at 0
+abbrev pub free-item : ℕ → ℕ → State → Option ℕ
+free-item b i s = cond (ltb b (s .settings .boards)) (nth (s .boards b .free) i) None

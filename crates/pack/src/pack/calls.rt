@@ -3,13 +3,10 @@ ghost use mathlib.Core.Path.{_≡_};
 ghost use Rattle.std.specs.Results.{Cases};
 ghost use Rattle.theory.specs.Make.{make};
 ghost use Rattle.theory.specs.SetSlot.{set-slot};
-ghost use Rattle.pack.specs.Shown.{state, memory};
+ghost use Rattle.pack.specs.Shown.{state};
 use super::Pack;
-use boards::registers::NO_ENTRY;
 use theory::fault::PackFault;
 use theory::memory::Cell;
-use theory::memory::Entry;
-use theory::memory::Ref;
 use wire::wire::Wire;
 
 impl<W: Wire, T> Pack<'_, W, T> {
