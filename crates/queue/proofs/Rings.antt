@@ -3,14 +3,15 @@ use mathlib.Core.Path.{_≡_, refl, sym, ap, ap₂, _∙_}
 use mathlib.Core.List.{List, [], _∷_, _++_}
 use Prim.Native.Nat.{ℕ, _+_, _-_, _<_, _≤_}
 use native.Mathlib.Omega.{arith}
-use lib.ListN.{length, getD, set}
+use lib.ListN.{length, getD, set, length-set}
 use Rattle.std.specs.declared.option.Option.the-variants.{Some, None}
 use Rattle.std.specs.shelf.Maps.{nth}
 use Rattle.std.proofs.shelf.Maps.{nth-read, nth-past}
+use Rattle.std.proofs.shelf.Tests.{eq-eqb, ne-eqb}
 use Rattle.theory.specs.Lists.{ring, head}
 use Rattle.theory.proofs.Rings.{length-ring, ring-none}
 use Rattle.queue.specs.declared.ring.Ring.{Ring}
-use Rattle.queue.specs.Rings.{items, Placed, Pushed, Popped}
+use Rattle.queue.specs.Rings.{items, items-in, Placed, Pushed, Popped}
 use Rattle.queue.proofs.Places.{ring-pushed, ring-popped, getD-ring}
 
 module _ {T : Type 0} where
@@ -21,9 +22,17 @@ module _ {T : Type 0} where
   pub items-none : (xs : List T) (r : Ring) → r .len ≡ 0 → items xs r ≡ []
   items-none xs r e = ap (ring xs (r .first)) e ∙ ring-none xs (r .first)
 
+  pub items-unfit : (xs : List T) (r : Ring) → (r .room ≡ length xs → ⊥) → items-in xs r ≡ []
+  unfolding items-in
+  items-unfit xs r ne = rw (ne-eqb (r .room) (length xs) ne)
+
   module _ (xs : List T) (r : Ring) (n : length xs ≡ r .room) where
     pub length-items : length (items xs r) ≡ r .len
     length-items = length-ring xs (r .first) (r .len) (omega arith) (omega arith)
+
+    pub items-fit : items-in xs r ≡ items xs r
+    unfolding items-in
+    items-fit = rw (eq-eqb (r .room) (length xs) (sym n))
 
     pub items-pushed : (s : Ring) (at : ℕ) (x : T) → Pushed r s at → items (set xs at x) s ≡ items xs r ++ x ∷ []
     items-pushed s at x p =

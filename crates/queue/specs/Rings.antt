@@ -1,7 +1,10 @@
 -- A ring over a list of places: its items, and what its calls say.
 use mathlib.Core.Path.{_≡_}
-use mathlib.Core.List.{List}
+use mathlib.Core.Bool.{cond}
+use mathlib.Core.List.{List, []}
 use Prim.Native.Nat.{ℕ, zero-le, _+_, _-_, _<_}
+use lib.Dec.{eqb}
+use lib.ListN.{length}
 use Rattle.theory.specs.Lists.{ring}
 use Rattle.queue.specs.Places.{place-at}
 use Rattle.queue.specs.declared.ring.Ring.{Ring}
@@ -9,6 +12,10 @@ use Rattle.queue.specs.declared.ring.Ring.{Ring}
 -- the items that a ring has in xs, the first to come out first
 abbrev pub items : {T : Type 0} → List T → Ring → List T
 items xs r = ring xs (r .first) (r .len)
+
+-- the same, and nothing where the ring has another room than xs
+unfoldable pub items-in : {T : Type 0} → List T → Ring → List T
+items-in xs r = cond (eqb (r .room) (length xs)) (items xs r) []
 
 -- the ring of a number that names none
 abbrev pub no-ring : Ring

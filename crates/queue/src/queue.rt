@@ -1,14 +1,11 @@
-// One queue over a lent slice.
-ghost use mathlib.Core.Path.{_≡_};
-ghost use lib.ListN.{length};
-ghost use denote.Ref.{now};
+// One queue over a lent slice. It has no ghost field beside the slice, so that other structs can
+// hold it by value: a ring of another room than the slice has counts as empty.
 use crate::ring::Ring;
 
 mod methods;
 
 #[derive(Drop)]
 pub struct Queue<'a, T> {
-    places: &'a mut [T],
     ring: Ring,
-    ghost room: { length (now places) ≡ ring .room },
+    places: &'a mut [T],
 }

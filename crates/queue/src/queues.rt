@@ -1,19 +1,26 @@
-// Up to 16 queues over one lent slice, with `each` places to a queue.
+// Up to 16 queues over one lent slice. As with one queue, no ghost field stands beside the slice:
+// where fewer places are lent than the layout was made for, there is no queue.
 ghost use mathlib.Core.Path.{_≡_};
 ghost use Prim.Native.Nat.{ℕ, _*_, _<_, _≤_};
 ghost use lib.ListN.{length, getD};
-ghost use denote.Ref.{now};
 ghost use Rattle.queue.specs.Rings.{no-ring};
 use crate::ring::Ring;
 
 mod methods;
 
-#[derive(Drop)]
-pub struct Queues<'a, T> {
+// `count` queues with `each` places, the one behind the other, among so many lent places.
+#[derive(Clone, Copy)]
+struct Layout {
     rings: [Ring; 16],
     count: usize,
     each: usize,
-    places: &'a mut [T],
-    ghost fits: { (length rings ≡ 16) × (count ≤ 16) × (count * each ≤ length (now places)) },
+    lent: usize,
+    ghost fits: { (length rings ≡ 16) × (count ≤ 16) × (count * each ≤ lent) },
     ghost rooms: { (k : ℕ) → k < 16 → getD rings k no-ring .room ≡ each },
+}
+
+#[derive(Drop)]
+pub struct Queues<'a, T> {
+    layout: Layout,
+    places: &'a mut [T],
 }

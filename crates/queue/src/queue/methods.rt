@@ -6,6 +6,7 @@ ghost use Rattle.std.specs.shelf.Maps.{nth};
 ghost use Rattle.theory.specs.Lists.{head, tail};
 ghost use Rattle.queue.specs.Pushes.{pushed, push-answer, has-room};
 ghost use Rattle.queue.specs.Queued.{queued, room-of};
+ghost use Rattle.queue.specs.Rings.{items};
 use super::Queue;
 use crate::Full;
 use crate::ring::Ring;
@@ -17,13 +18,14 @@ impl<'a, T: Copy> Queue<'a, T> {
         ensures room { λ r. ⌜ room-of r ≡ length (now (places .entry)) ⌝ }
     {
         let ring = Ring::new(places.len());
-        Queue { places, ring }
+        Queue { ring, places }
     }
 
     pub fn len(&self) -> usize
         ensures { λ r. ⌜ r ≡ length (queued (now (self .entry))) ⌝ }
     {
-        self.ring.len()
+        let ring = self.fitted();
+        ring.len()
     }
 
     pub fn room(&self) -> usize
@@ -36,7 +38,8 @@ impl<'a, T: Copy> Queue<'a, T> {
     pub fn get(&self, i: usize) -> Option<T>
         ensures { λ r. ⌜ r ≡ nth (queued (now (self .entry))) i ⌝ }
     {
-        match self.ring.place(i) {
+        let ring = self.fitted();
+        match ring.place(i) {
             Some(at) => {
                 // by a shared slice, which is known to span fewer bytes than a word counts
                 let places: &[T] = self.places;
@@ -58,7 +61,7 @@ impl<'a, T: Copy> Queue<'a, T> {
         ensures room { λ _. ⌜ room-of (now (self .exit)) ≡ room-of (now (self .entry)) ⌝ }
         ensures refused { λ _. ⌜ (room-of (now (self .entry)) ≤ length (queued (now (self .entry))) → now (self .exit) ≡ now (self .entry)) ⌝ }
     {
-        let mut ring = self.ring;
+        let mut ring = self.fitted();
         match ring.push() {
             Ok(at) => {
                 self.places[at] = x;
@@ -74,13 +77,24 @@ impl<'a, T: Copy> Queue<'a, T> {
         ensures after { λ _. ⌜ queued (now (self .exit)) ≡ tail (queued (now (self .entry))) ⌝ }
         ensures room { λ _. ⌜ room-of (now (self .exit)) ≡ room-of (now (self .entry)) ⌝ }
     {
-        let mut ring = self.ring;
-        match ring.pop() {
+        let mut rest = self.fitted();
+        match rest.pop() {
             Some(at) => {
-                self.ring = ring;
+                self.ring = rest;
                 Some(self.places[at])
             }
             None => None,
         }
+    }
+    // The ring, with as much room as there are places.
+    fn fitted(&self) -> Ring
+        ensures room { λ r. ⌜ length (now (now (self .entry) .places)) ≡ r .room ⌝ }
+        ensures items { λ r. ⌜ queued (now (self .entry)) ≡ items (now (now (self .entry) .places)) r ⌝ }
+    {
+        let room = self.places.len();
+        if self.ring.room() == room {
+            return self.ring;
+        }
+        Ring::new(room)
     }
 }

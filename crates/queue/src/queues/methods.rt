@@ -1,7 +1,7 @@
 ghost use mathlib.Core.Path.{_≡_};
 ghost use mathlib.Core.Bool.{cond, false};
 ghost use mathlib.Core.List.{[]};
-ghost use Prim.Native.Nat.{_+_, _*_, _<_};
+ghost use Prim.Native.Nat.{_+_, _*_, _<_, _≤_};
 ghost use lib.ListN.{length};
 ghost use Rattle.std.specs.shelf.Maps.{nth};
 ghost use Rattle.theory.specs.Functions.{put};
@@ -9,6 +9,7 @@ ghost use Rattle.theory.specs.Lists.{head, tail};
 ghost use Rattle.queue.specs.Layouts.{layout-fits, layout-answer};
 ghost use Rattle.queue.specs.Pushes.{pushed-at, push-answer, has-room-at};
 ghost use Rattle.queue.specs.QueuesOf.{queues, count-of, each-of, places-len};
+use super::Layout;
 use super::Queues;
 use crate::Full;
 use crate::TooSmall;
@@ -22,12 +23,13 @@ impl<'a, T: Copy> Queues<'a, T> {
         ensures each { λ r. ⌜ each-of r ≡ 0 ⌝ }
         ensures places { λ r. ⌜ places-len r ≡ length (now (places .entry)) ⌝ }
     {
-        Queues {
+        let layout = Layout {
             rings: [Ring::new(0); 16],
             count: 0,
             each: 0,
-            places,
-        }
+            lent: 0,
+        };
+        Queues { layout, places }
     }
 
     // Empty queues, so many with so many places each. What was queued before is dropped.
@@ -42,12 +44,16 @@ impl<'a, T: Copy> Queues<'a, T> {
         if count > 16 {
             return Err(TooSmall);
         }
-        if count as u128 * each as u128 > self.places.len() as u128 {
+        let lent = self.places.len();
+        if count as u128 * each as u128 > lent as u128 {
             return Err(TooSmall);
         }
-        self.rings = [Ring::new(each); 16];
-        self.count = count;
-        self.each = each;
+        self.layout = Layout {
+            rings: [Ring::new(each); 16],
+            count,
+            each,
+            lent,
+        };
         Ok(())
     }
 
@@ -58,12 +64,24 @@ impl<'a, T: Copy> Queues<'a, T> {
         self.places.len()
     }
 
+    // How many queues there are.
+    pub fn count(&self) -> usize
+        ensures is { λ r. ⌜ r ≡ count-of (now (self .entry)) ⌝ }
+        ensures few { λ r. ⌜ r ≤ 16 ⌝ }
+    {
+        if self.layout.lent <= self.places.len() {
+            self.layout.count
+        } else {
+            0
+        }
+    }
+
     // How many items queue b has: none where there is no such queue.
     pub fn len(&self, b: usize) -> usize
         ensures { λ r. ⌜ r ≡ length (queues (now (self .entry)) b) ⌝ }
     {
-        if b < self.count {
-            let ring = self.rings[b];
+        if b < self.count() {
+            let ring = self.layout.rings[b];
             ring.len()
         } else {
             0
@@ -74,10 +92,10 @@ impl<'a, T: Copy> Queues<'a, T> {
     pub fn get(&self, b: usize, i: usize) -> Option<T>
         ensures { λ r. ⌜ r ≡ nth (queues (now (self .entry)) b) i ⌝ }
     {
-        if b >= self.count {
+        if b >= self.count() {
             return None;
         }
-        let ring = self.rings[b];
+        let ring = self.layout.rings[b];
         match ring.place(i) {
             Some(at) => {
                 let from = self.flat(b, at);
@@ -104,15 +122,15 @@ impl<'a, T: Copy> Queues<'a, T> {
         ensures places { λ _. ⌜ places-len (now (self .exit)) ≡ places-len (now (self .entry)) ⌝ }
         ensures refused { λ _. ⌜ (has-room-at (count-of (now (self .entry))) (each-of (now (self .entry))) b (queues (now (self .entry))) ≡ false → now (self .exit) ≡ now (self .entry)) ⌝ }
     {
-        if b >= self.count {
+        if b >= self.count() {
             return Err(Full);
         }
-        let mut ring = self.rings[b];
+        let mut ring = self.layout.rings[b];
         match ring.push() {
             Ok(at) => {
                 let to = self.flat(b, at);
                 self.places[to] = x;
-                self.rings[b] = ring;
+                self.layout.rings[b] = ring;
                 Ok(())
             }
             Err(full) => Err(full),
@@ -127,15 +145,15 @@ impl<'a, T: Copy> Queues<'a, T> {
         ensures each { λ _. ⌜ each-of (now (self .exit)) ≡ each-of (now (self .entry)) ⌝ }
         ensures places { λ _. ⌜ places-len (now (self .exit)) ≡ places-len (now (self .entry)) ⌝ }
     {
-        if b >= self.count {
+        if b >= self.count() {
             return None;
         }
-        let mut ring = self.rings[b];
-        match ring.pop() {
+        let mut rest = self.layout.rings[b];
+        match rest.pop() {
             Some(at) => {
                 let from = self.flat(b, at);
                 let x = self.places[from];
-                self.rings[b] = ring;
+                self.layout.rings[b] = rest;
                 Some(x)
             }
             None => None,
@@ -144,11 +162,11 @@ impl<'a, T: Copy> Queues<'a, T> {
 
     // Which of all places is the place `at` of queue b.
     fn flat(&self, b: usize, at: usize) -> usize
-        requires queue { ⌜ b < now self .count ⌝ }
-        requires place { ⌜ at < now self .each ⌝ }
-        ensures is { λ r. ⌜ r ≡ b * now (self .entry) .each + at ⌝ }
+        requires queue { ⌜ b < count-of (now self) ⌝ }
+        requires place { ⌜ at < each-of (now self) ⌝ }
+        ensures is { λ r. ⌜ r ≡ b * each-of (now (self .entry)) + at ⌝ }
         ensures within { λ r. ⌜ r < places-len (now (self .entry)) ⌝ }
     {
-        b * self.each + at
+        b * self.layout.each + at
     }
 }

@@ -26,6 +26,12 @@ impl Ring {
         self.len
     }
 
+    pub fn room(&self) -> usize
+        ensures { λ r. ⌜ r ≡ now (self .entry) .room ⌝ }
+    {
+        self.room
+    }
+
     // The place of the item at i, in order.
     pub fn place(&self, i: usize) -> Option<usize>
         ensures { λ r. ⌜ BySome r (now (self .entry) .len ≤ i) (Placed (now (self .entry)) i) ⌝ }
