@@ -1,10 +1,10 @@
 ghost use mathlib.Core.Path.{_≡_};
-ghost use mathlib.Core.List.{[], _∷_, _++_};
-ghost use Prim.Native.Nat.{_+_, _<_, _≤_};
+ghost use mathlib.Core.List.{_∷_};
+ghost use Prim.Native.Nat.{_<_, _≤_};
 ghost use lib.ListN.{length, take, drop};
 ghost use Rattle.std.specs.Options.{Cases as BySome};
 ghost use Rattle.text.specs.Lines.{lines};
-ghost use Rattle.text.specs.Left.{left, given};
+ghost use Rattle.text.specs.Left.{Ended, Gives, given, left};
 use super::Line;
 use super::Reader;
 
@@ -36,13 +36,7 @@ impl<'a> Reader<'a> {
 
     // The next line, until nothing is left.
     pub fn next_line(&mut self) -> Option<Line<'a>>
-        ensures { λ r. ⌜ BySome r
-            ((left (now (self .entry)) ≡ []) × (now (self .exit) ≡ now (self .entry)))
-            (λ l. (lines (left (now (self .entry))) ≡ now (l .text) ∷ lines (left (now (self .exit))))
-            × (left (now (self .entry)) ≡ now (l .text) ++ left (now (self .exit)))
-            × (0 < length (now (l .text)))
-            × (l .number ≡ given (now (self .entry)) + 1)
-            × (given (now (self .exit)) ≡ given (now (self .entry)) + 1)) ⌝ }
+        ensures { λ r. ⌜ BySome r (Ended (now (self .entry)) (now (self .exit))) (Gives (now (self .entry)) (now (self .exit))) ⌝ }
     {
         let from = self.pos;
         let input = self.input;
