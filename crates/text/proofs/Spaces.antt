@@ -6,7 +6,7 @@ use native.Mathlib.Omega.{arith}
 use lib.ListN.{length, take, getD}
 use Rattle.std.specs.Written.{decimal}
 use Rattle.std.specs.declared.option.Option.the-variants.{Some}
-use Rattle.std.proofs.shelf.Lists.{append-assoc, append-nil, take-more, take-all, length-take-le}
+use Rattle.std.proofs.shelf.Lists.{append-assoc, take-more, take-all, length-take-le}
 use Rattle.text.specs.declared.writer.Writer.{Writer}
 use Rattle.text.specs.Rows.{spaced, row-of}
 use Rattle.text.specs.Values.{value}

@@ -23,6 +23,7 @@ fn line_len(bytes: &[u8]) -> usize
 }
 
 impl<'a> Reader<'a> {
+    // A reader that stands before the first line.
     pub fn over(input: &'a [u8]) -> Reader<'a>
         ensures left { λ r. ⌜ left r ≡ now (input .entry) ⌝ }
         ensures given { λ r. ⌜ given r ≡ 0 ⌝ }
@@ -34,7 +35,7 @@ impl<'a> Reader<'a> {
         }
     }
 
-    // The next line, until nothing is left.
+    // The next line, or none where nothing is left. All lines together take one walk over the input.
     pub fn next_line(&mut self) -> Option<Line<'a>>
         ensures { λ r. ⌜ BySome r (Ended (now (self .entry)) (now (self .exit))) (Gives (now (self .entry)) (now (self .exit))) ⌝ }
     {

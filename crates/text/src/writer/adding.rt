@@ -5,6 +5,7 @@ ghost use Rattle.text.specs.Written.{Wrote};
 use super::Writer;
 
 impl Writer<'_> {
+    // Adds one byte, if there is room.
     pub fn byte(&mut self, b: u8)
         ensures { λ _. ⌜ Wrote (now (self .entry)) (now (self .exit)) (b ∷ []) ⌝ }
     {
@@ -14,6 +15,7 @@ impl Writer<'_> {
         }
     }
 
+    // Adds a text, as far as there is room.
     pub fn text(&mut self, bytes: &[u8])
         ensures { λ _. ⌜ Wrote (now (self .entry)) (now (self .exit)) (now (bytes .entry)) ⌝ }
     {
