@@ -1,11 +1,11 @@
 -- Texts that are cut at the room that there is for them.
-use mathlib.Core.Path.{_≡_, refl, sym, ap, _∙_}
+use mathlib.Core.Path.{_≡_, sym, ap, _∙_}
 use mathlib.Core.List.{List, [], _∷_, _++_}
 use mathlib.Core.Logic.{⊎-elim}
-use Prim.Native.Nat.{ℕ, min, _+_, _-_, _<_, _≤_}
+use Prim.Native.Nat.{ℕ, _+_, _-_, _<_, _≤_}
 use native.Mathlib.Omega.{arith}
-use lib.ListN.{length, take, drop, set, length-take, length-drop, length-append}
-use Rattle.std.proofs.shelf.Lists.{append-assoc, append-nil, take-all, take-at, take-append-le, take-more-set, drop-drop, drop-set-lt, length-take-le, length-push}
+use lib.ListN.{length, take, drop, set}
+use Rattle.std.proofs.shelf.Lists.{append-assoc, take-all, take-at, take-append-le, take-more-set, drop-drop, length-take-le, length-push}
 use Rattle.std.proofs.shelf.Tests.{cases-lt}
 
 module _ {X : Type 0} where

@@ -5,6 +5,7 @@ pub mod Equal
 pub mod Fitted
 pub mod Numerals
 pub mod Pieces
+pub mod Spaces
 pub mod Valued
 pub mod Widths
 pub mod Writes

@@ -1,16 +1,17 @@
 -- One call of a `Writer` after another.
 use mathlib.Core.Path.{_≡_, refl, sym, ap, _∙_}
 use mathlib.Core.List.{List, [], _∷_, _++_}
-use Prim.Native.Nat.{ℕ, _+_, _-_, _/_, _%_, _^_, _<_, _≤_}
+use Prim.Native.Nat.{ℕ, min, _+_, _/_, _%_, _^_, _<_, _≤_}
 use native.Mathlib.Omega.{arith}
 use lib.ListN.{length, take, drop, getD, length-take, length-append}
 use denote.Ref.{now}
 use native.Mathlib.Nat.{mod-eq-of-lt}
+use Rattle.std.specs.Joined.{joined}
 use Rattle.std.specs.Written.{decimal}
-use Rattle.std.proofs.shelf.Lists.{append-nil, take-all, take-more}
+use Rattle.std.proofs.shelf.Lists.{append-nil, joined-more, length-take-le, take-all, take-append-drop, take-more}
 use Rattle.std.proofs.shelf.Decimals.{decimal-digit, decimal-step}
 use Rattle.text.specs.declared.writer.Writer.{Writer}
-use Rattle.text.specs.Written.{Wrote, written, room, behind}
+use Rattle.text.specs.Written.{Wrote, written, room}
 use Rattle.text.proofs.Fitted.{take-twice, drop-later}
 
 pub length-written : (w : Writer) → length (written w) ≤ room w
@@ -51,6 +52,23 @@ wrote-whole {v} {w} {xs} a h = a .text ∙ take-all (room v) (written v ++ xs) (
 -- of a writer that had written nothing
 pub wrote-first : {v w : Writer} {xs : List ℕ} → Wrote v w xs → written v ≡ [] → written w ≡ take (room v) xs
 wrote-first {v} {w} {xs} a e = a .text ∙ ap (λ z. take (room v) (z ++ xs)) e
+
+-- how much is written, and what the whole place then holds
+pub wrote-length : {v w : Writer} {xs : List ℕ} → Wrote v w xs → length (written w) ≡ min (room v) (length (written v) + length xs)
+wrote-length {v} {w} {xs} a = ap length (a .text) ∙ length-take (room v) (written v ++ xs) ∙ ap (min (room v)) (length-append (written v) xs)
+
+pub wrote-place : {v w : Writer} {xs : List ℕ} → Wrote v w xs → now (w .place) ≡ written w ++ drop (length (written w)) (now (v .place))
+wrote-place {v} {w} {xs} a =
+    let l : length (written w) ≡ w .len = length-take-le (w .len) (now (w .place)) (w .ok) in
+    sym (take-append-drop (w .len) (now (w .place))) ∙ ap (λ n. written w ++ drop n (now (w .place))) (sym l) ∙ ap (λ z. written w ++ z) (a .after)
+
+-- a loop that writes the text of each element in turn
+pub wrote-joined-none : {X : Type 0} (w : Writer) (f : X → List ℕ) (xs : List X) → Wrote w w (joined f (take 0 xs))
+wrote-joined-none w f xs = wrote-nothing w
+
+pub wrote-joined-more : {X : Type 0} {v w x : Writer} (f : X → List ℕ) (xs : List X) (i : ℕ) (d : X) → i < length xs
+    → Wrote v w (joined f (take i xs)) → Wrote w x (f (getD xs i d)) → Wrote v x (joined f (take (i + 1) xs))
+wrote-joined-more f xs i d h a b = rw (take-more xs i d h, ← joined-more f [] (take i xs) (getD xs i d)) (a then b)
 
 -- the bytes of a text one by one
 pub wrote-more : {v w x : Writer} (bytes : List ℕ) (i : ℕ) → i < length bytes → Wrote v w (take i bytes) → Wrote w x (getD bytes i 0 ∷ []) → Wrote v x (take (i + 1) bytes)

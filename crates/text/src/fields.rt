@@ -70,6 +70,7 @@ impl Field<'_> {
 }
 
 impl<'a> Fields<'a> {
+    // The fields of this line, from its start.
     pub fn of(line: Line<'a>) -> Fields<'a>
         ensures rest { λ r. ⌜ rest r ≡ now (line .entry .text) ⌝ }
         ensures line { λ r. ⌜ at-line r ≡ line .entry .number ⌝ }

@@ -2,4 +2,5 @@
 pub mod bytes;
 pub mod fields;
 pub mod reader;
+pub mod row;
 pub mod writer;

@@ -1,10 +1,10 @@
 ghost use mathlib.Core.Path.{_≡_};
-ghost use mathlib.Core.List.{[], _∷_, _++_};
-ghost use Prim.Native.Nat.{_+_, _<_, _≤_};
+ghost use mathlib.Core.List.{_∷_};
+ghost use Prim.Native.Nat.{_<_, _≤_};
 ghost use lib.ListN.{length, take, drop};
 ghost use Rattle.std.specs.Options.{Cases as BySome};
 ghost use Rattle.text.specs.Lines.{lines};
-ghost use Rattle.text.specs.Left.{left, given};
+ghost use Rattle.text.specs.Left.{Ended, Gives, given, left};
 use super::Line;
 use super::Reader;
 
@@ -23,6 +23,7 @@ fn line_len(bytes: &[u8]) -> usize
 }
 
 impl<'a> Reader<'a> {
+    // A reader that stands before the first line.
     pub fn over(input: &'a [u8]) -> Reader<'a>
         ensures left { λ r. ⌜ left r ≡ now (input .entry) ⌝ }
         ensures given { λ r. ⌜ given r ≡ 0 ⌝ }
@@ -34,15 +35,9 @@ impl<'a> Reader<'a> {
         }
     }
 
-    // The next line, until nothing is left.
+    // The next line, or none where nothing is left. All lines together take one walk over the input.
     pub fn next_line(&mut self) -> Option<Line<'a>>
-        ensures { λ r. ⌜ BySome r
-            ((left (now (self .entry)) ≡ []) × (now (self .exit) ≡ now (self .entry)))
-            (λ l. (lines (left (now (self .entry))) ≡ now (l .text) ∷ lines (left (now (self .exit))))
-            × (left (now (self .entry)) ≡ now (l .text) ++ left (now (self .exit)))
-            × (0 < length (now (l .text)))
-            × (l .number ≡ given (now (self .entry)) + 1)
-            × (given (now (self .exit)) ≡ given (now (self .entry)) + 1)) ⌝ }
+        ensures { λ r. ⌜ BySome r (Ended (now (self .entry)) (now (self .exit))) (Gives (now (self .entry)) (now (self .exit))) ⌝ }
     {
         let from = self.pos;
         let input = self.input;

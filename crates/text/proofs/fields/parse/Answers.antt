@@ -1,8 +1,8 @@
-use mathlib.Core.Path.{sym, ap, _∙_}
+use mathlib.Core.Path.{sym}
 use mathlib.Core.Logic.{⊎-elim}
-use Prim.Native.Nat.{_+_, _*_, _<_, _^_}
+use Prim.Native.Nat.{_<_, _^_}
 use native.Mathlib.Omega.{arith}
-use Rattle.text.proofs.Numerals.{Read, read-none, read-more, read-small, digit-in, digit-low, digit-high, numeral-empty, numeral-long, numeral-other, numeral-large, numeral-is}
+use Rattle.text.proofs.Numerals.{read-none, read-more, read-small, digit-in, digit-low, digit-high, numeral-empty, numeral-long, numeral-other, numeral-large, numeral-is}
 use Rattle.text.proofs.fields.parse.Needs as need
 use Rattle.text.proofs.fields.parse.Needs.{then-b-lt48·by·then-b-lt48, then-b-lt48·by·else-b-lt48·then-b-gt57}
 

@@ -1,6 +1,6 @@
-use mathlib.Core.Path.{_≡_, refl, ap, _∙_}
+use mathlib.Core.Path.{_≡_, refl}
 use native.Mathlib.Omega.{arith}
-use Prim.Native.Nat.{_+_, _<_}
+use Prim.Native.Nat.{_+_}
 use lib.ListN.{length, take, set, length-set}
 use Rattle.std.proofs.shelf.Lists.{drop-set-lt, length-take-le}
 use Rattle.text.proofs.Fitted.{put-fits, put-full}

@@ -1,4 +1,3 @@
-use lib.ListN.{take}
 use Rattle.std.proofs.shelf.Lists.{take-all}
 use Rattle.text.proofs.Writes.{wrote-nothing, wrote-more}
 use Rattle.text.proofs.writer.Writer.text.Needs as need
