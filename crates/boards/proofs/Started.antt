@@ -26,9 +26,18 @@ own-credit credit boards h = omega (arith, mul-le credit 1 credit boards (omega 
 -- a board with its memory
 abbrev with-memory : List Cell → List Entry → List ℕ → List Held → Board → Board
 with-memory cs es fs hs x = record {
-  slots = x .slots; top = x .top; cells = cs; entries = es; free = fs;
-  held = hs; waits = x .waits; outcome = x .outcome;
-  mode = x .mode; requested = x .requested; purse = x .purse; round = x .round;
+  slots = x .slots;
+  top = x .top;
+  cells = cs;
+  entries = es;
+  free = fs;
+  held = hs;
+  waits = x .waits;
+  outcome = x .outcome;
+  mode = x .mode;
+  requested = x .requested;
+  purse = x .purse;
+  round = x .round;
 }
 
 pub shown-fresh : (t : Settings) (r : List Registers) (cs : List Cell) (es : List Entry) (fs : ℕ → List ℕ) (hs : ℕ → List Held) (m k : ℕ)

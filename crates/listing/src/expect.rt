@@ -21,8 +21,8 @@ use theory::state::Settings;
 pub fn expect_names(reader: &mut Reader<'_>, number: usize, names: &[u8]) -> Result<(), LineFault>
     ensures { λ r. ⌜ Cases r
         (λ _. (begins (now (names .entry)) (lines (left (now (reader .entry)))) ≡ true)
-            × (lines (left (now (reader .exit))) ≡ tail (lines (left (now (reader .entry)))))
-            × (given (now (reader .exit)) ≡ given (now (reader .entry)) + 1))
+        × (lines (left (now (reader .exit))) ≡ tail (lines (left (now (reader .entry)))))
+        × (given (now (reader .exit)) ≡ given (now (reader .entry)) + 1))
         (λ e. (begins (now (names .entry)) (lines (left (now (reader .entry)))) ≡ false) × (e ≡ at-line number Names)) ⌝ }
 {
     let fault = LineFault {
@@ -43,8 +43,8 @@ pub fn expect_names(reader: &mut Reader<'_>, number: usize, names: &[u8]) -> Res
 pub fn expect_settings(reader: &mut Reader<'_>, number: usize) -> Result<Settings, LineFault>
     ensures { λ r. ⌜ Cases r
         (λ t. (settings-in (lines (left (now (reader .entry)))) ≡ Some t)
-            × (lines (left (now (reader .exit))) ≡ tail (lines (left (now (reader .entry)))))
-            × (given (now (reader .exit)) ≡ given (now (reader .entry)) + 1))
+        × (lines (left (now (reader .exit))) ≡ tail (lines (left (now (reader .entry)))))
+        × (given (now (reader .exit)) ≡ given (now (reader .entry)) + 1))
         (λ e. (settings-in (lines (left (now (reader .entry)))) ≡ None) × (e ≡ at-line number Values)) ⌝ }
 {
     let fault = LineFault {

@@ -7,6 +7,7 @@ ghost use Rattle.queue.specs.Rings.{no-ring};
 use crate::ring::Ring;
 
 mod methods;
+mod sizes;
 
 // `count` queues with `each` places, the one behind the other, among so many lent places.
 #[derive(Clone, Copy)]

@@ -1,4 +1,5 @@
 pub mod Functions
+pub mod Makes
 pub mod Parts
 pub mod Rings
 pub mod States

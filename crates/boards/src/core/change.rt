@@ -74,7 +74,15 @@ impl<W: Wire> Core<'_, W> {
     {
         self.take_free(b);
         self.wipe(b, place, size);
-        self.put_entry(b, entry, Entry { size, place, ..NO_ENTRY });
+        self.put_entry(
+            b,
+            entry,
+            Entry {
+                size,
+                place,
+                ..NO_ENTRY
+            },
+        );
         self.put_top(b, place + size);
         let board = b as u16;
         self.put_slot(b, slot, Cell::Ref(Ref { board, entry }));

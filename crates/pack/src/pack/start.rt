@@ -22,7 +22,12 @@ impl<'a, W: Wire, T> Pack<'a, W, T> {
         ensures state { λ r. ⌜ state width capacity waiting r ≡ blank (width wire) (capacity wire) (waiting wire) ⌝ }
         ensures memory { λ r. ⌜ memory r ≡ record { cells = length (now (brought .entry .cells)); entries = length (now (brought .entry .entries)); free = length (now (brought .entry .free)); held = length (now (brought .entry .held)) } ⌝ }
     {
-        let Memory { cells, entries, free, held } = brought;
+        let Memory {
+            cells,
+            entries,
+            free,
+            held,
+        } = brought;
         Pack {
             core: Core {
                 cells,

@@ -57,13 +57,6 @@ impl<'a, T: Copy> Queues<'a, T> {
         Ok(())
     }
 
-    // How many places all queues have to share.
-    pub fn places(&self) -> usize
-        ensures { λ r. ⌜ r ≡ places-len (now (self .entry)) ⌝ }
-    {
-        self.places.len()
-    }
-
     // How many queues there are.
     pub fn count(&self) -> usize
         ensures is { λ r. ⌜ r ≡ count-of (now (self .entry)) ⌝ }

@@ -10,7 +10,10 @@ loop-number-holds c = (numbered-none (queues (c .args .free .now)) (c .args .b) 
 pub loop-number-again : need.loop-number-again
 loop-number-again c =
     let inv = c .loop-number .inv in
-    let q = c .loop-number .free in
-    (c .push .ensures .after
-     ∙ numbered-more (queues (c .args .free .now)) (queues q) (count-of q) (each-of q) (c .args .b) (c .loop-number .number) (omega (arith, inv .1, c .pre .queue)) (omega (arith, inv .2, c .pre .room)) (inv .0),
-     c .push .ensures .count ∙ inv .1, c .push .ensures .each ∙ inv .2, c .push .ensures .places ∙ inv .3)
+    let q = c .loop-number .free in (
+      c .push .ensures .after
+          ∙ numbered-more (queues (c .args .free .now)) (queues q) (count-of q) (each-of q) (c .args .b) (c .loop-number .number) (omega (arith, inv .1, c .pre .queue)) (omega (arith, inv .2, c .pre .room)) (inv .0),
+      c .push .ensures .count ∙ inv .1,
+      c .push .ensures .each ∙ inv .2,
+      c .push .ensures .places ∙ inv .3,
+    )

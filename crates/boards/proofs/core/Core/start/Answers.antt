@@ -27,8 +27,12 @@ returns g c =
       sound = record {
         ranged = c .pre .range .ranged;
         sized = (c .fresh-registers-self .ensures .count, omega (arith, c .pre .memory .cells), omega (arith, c .pre .memory .entries));
-        laid = (c .number-all .ensures .count, c .number-all .ensures .each, c .lay-out .ensures .count ∙ ap (λ z. cond z (t .boards) (count-of (p .held))) fits,
-          c .lay-out .ensures .each ∙ ap (λ z. cond z (t .boards) (each-of (p .held))) fits);
+        laid = (
+          c .number-all .ensures .count,
+          c .number-all .ensures .each,
+          c .lay-out .ensures .count ∙ ap (λ z. cond z (t .boards) (count-of (p .held))) fits,
+          c .lay-out .ensures .each ∙ ap (λ z. cond z (t .boards) (each-of (p .held))) fits,
+        );
       };
       after = ap (λ z. with-boards z (started t (model (w .width) (w .capacity) (w .waiting) p)))
           (shown-fresh t (c .fresh-registers-self .result) (c .fill .last .xs) (c .fill-2 .last .xs) (queues (c .number-all .last .free)) (queues (c .lay-out .last .self))
