@@ -139,7 +139,7 @@ pub calls-fit : (line : ℕ) (ls : List (List ℕ)) (s : State) → line + lengt
 unfolding call-lines
 calls-fit line [] s h = omega arith
 calls-fit line (l ∷ ls) s h =
-    call-fits line (total-length ls) l s (call-lines (suc line) ls) (omega arith) (λ t. calls-fit (suc line) ls t (omega arith)) (row-of l) refl
+    call-fits line (total-length ls) l s (call-lines (line + 1) ls) (omega arith) (λ t. calls-fit (line + 1) ls t (omega arith)) (row-of l) refl
 
 from-3-fits : (ls : List (List ℕ)) (s : State) → length ls < 99996 → length (from-line-3 ls s .0) ≤ total-length ls + 9
 from-3-fits ls s h =

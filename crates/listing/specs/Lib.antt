@@ -2,3 +2,4 @@ pub mod Lines
 pub mod Listing
 pub mod Numbers
 pub mod Printed
+pub mod Toward

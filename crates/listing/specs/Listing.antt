@@ -1,7 +1,7 @@
 -- The listing of a file, to the byte.
 use mathlib.Core.Bool.{Bool, false, cond}
 use mathlib.Core.List.{List, [], _∷_, _++_}
-use Prim.Native.Nat.{ℕ, suc}
+use Prim.Native.Nat.{ℕ, _+_}
 use lib.Chars.{codes}
 use Rattle.std.specs.declared.option.Option.{Option}
 use Rattle.std.specs.declared.option.Option.the-variants.{Some, None}
@@ -51,7 +51,7 @@ call-line line (Some r) s next = goes-on line (performed (call-of r) s .1) (next
 -- every line of calls, counted from `line`
 unfoldable pub call-lines : ℕ → List (List ℕ) → State → Out
 call-lines line [] s = ([], s)
-call-lines line (l ∷ ls) s = call-line line (row-of l) s (call-lines (suc line) ls)
+call-lines line (l ∷ ls) s = call-line line (row-of l) s (call-lines (line + 1) ls)
 
 -- whether the first line is this one
 abbrev pub begins : List ℕ → List (List ℕ) → Bool

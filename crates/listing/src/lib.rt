@@ -1,5 +1,7 @@
 // A file of calls, and its listing.
-pub mod expect;
+mod expect;
 pub mod fault;
-pub mod print;
+pub mod list;
+mod print;
 pub mod row;
+mod script;
