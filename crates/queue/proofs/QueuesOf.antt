@@ -3,7 +3,7 @@ use mathlib.Core.Path.{_≡_, refl, sym, ap, ap₂, fun-ext, _∙_}
 use mathlib.Core.Bool.{true, false}
 use mathlib.Core.List.{List, [], _∷_, _++_}
 use mathlib.Core.Logic.{_⊎_, inl, inr}
-use Prim.Native.Nat.{ℕ, _+_, _*_, _<_, _≤_}
+use Prim.Native.Nat.{ℕ, zero-le, _+_, _*_, _<_, _≤_}
 use native.Mathlib.Omega.{arith}
 use lib.ListN.{length, getD, set, length-set}
 use Rattle.std.specs.declared.option.Option.the-variants.{Some, None}
@@ -151,3 +151,11 @@ module _ {T : Type 0} (q : Queues T) (b : ℕ) (l : b < count-of q) (d : Ring) w
 
   pub has-room-no : r .len ≡ r .room → has-room-at (count-of q) (q .layout .each) b (queues q) ≡ false
   has-room-no h = and-right _ _ (le-ltb (length (queues q b)) (q .layout .each) (omega (arith, length-queue, ring-room)))
+
+-- no queue holds more than its room
+pub queue-within : {T : Type 0} (q : Queues T) (b : ℕ) → length (queues q b) ≤ q .layout .each
+queue-within q b = go (cases-lt b (count-of q))
+  where
+    go : (b < count-of q) ⊎ (count-of q ≤ b) → length (queues q b) ≤ q .layout .each
+    go (inl l) = omega (arith, length-queue q b l no-ring, ring-room q b l no-ring, getD (q .layout .rings) b no-ring .within .1)
+    go (inr h) = rw (queue-past q b h) zero-le

@@ -86,6 +86,7 @@ impl<'a, T: Copy> Queue<'a, T> {
             None => None,
         }
     }
+
     // The ring, with as much room as there are places.
     fn fitted(&self) -> Ring
         ensures room { λ r. ⌜ length (now (now (self .entry) .places)) ≡ r .room ⌝ }
