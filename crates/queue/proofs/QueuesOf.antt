@@ -1,5 +1,5 @@
 -- Queues over the parts of one list: what a call at one of them finds, and what it makes of all.
-use mathlib.Core.Path.{_≡_, refl, sym, ap, ap₂, fun-ext, _∙_}
+use mathlib.Core.Path.{_≡_, sym, ap, ap₂, fun-ext, _∙_}
 use mathlib.Core.Bool.{true, false}
 use mathlib.Core.List.{List, [], _∷_, _++_}
 use mathlib.Core.Logic.{_⊎_, inl, inr}
@@ -11,7 +11,7 @@ use Rattle.std.specs.shelf.Maps.{nth}
 use Rattle.std.proofs.shelf.Lists.{getD-set-same, getD-set-other, getD-default}
 use Rattle.std.proofs.shelf.Tests.{cases-lt, lt-ltb, le-ltb, le-leb, lt-leb, and-from, and-right}
 use Rattle.theory.specs.Functions.{put, masked}
-use Rattle.theory.specs.Lists.{parts, head, tail}
+use Rattle.theory.specs.Lists.{parts, tail}
 use Rattle.theory.proofs.Functions.{put-is, put-own, masked-in, masked-out}
 use Rattle.theory.proofs.Parts.{ends-within, length-parts, getD-parts, parts-set-other, parts-set-same}
 use Rattle.queue.specs.declared.queues.Queues.{Queues}
