@@ -1,9 +1,9 @@
 -- Queues over the parts of one list: what a call at one of them finds, and what it makes of all.
-use mathlib.Core.Path.{_≡_, refl, sym, ap, ap₂, fun-ext, _∙_}
+use mathlib.Core.Path.{_≡_, sym, ap, ap₂, fun-ext, _∙_}
 use mathlib.Core.Bool.{true, false}
 use mathlib.Core.List.{List, [], _∷_, _++_}
 use mathlib.Core.Logic.{_⊎_, inl, inr}
-use Prim.Native.Nat.{ℕ, _+_, _*_, _<_, _≤_}
+use Prim.Native.Nat.{ℕ, zero-le, _+_, _*_, _<_, _≤_}
 use native.Mathlib.Omega.{arith}
 use lib.ListN.{length, getD, set, length-set}
 use Rattle.std.specs.declared.option.Option.the-variants.{Some, None}
@@ -11,7 +11,7 @@ use Rattle.std.specs.shelf.Maps.{nth}
 use Rattle.std.proofs.shelf.Lists.{getD-set-same, getD-set-other, getD-default}
 use Rattle.std.proofs.shelf.Tests.{cases-lt, lt-ltb, le-ltb, le-leb, lt-leb, and-from, and-right}
 use Rattle.theory.specs.Functions.{put, masked}
-use Rattle.theory.specs.Lists.{parts, head, tail}
+use Rattle.theory.specs.Lists.{parts, tail}
 use Rattle.theory.proofs.Functions.{put-is, put-own, masked-in, masked-out}
 use Rattle.theory.proofs.Parts.{ends-within, length-parts, getD-parts, parts-set-other, parts-set-same}
 use Rattle.queue.specs.declared.queues.Queues.{Queues}
@@ -151,3 +151,11 @@ module _ {T : Type 0} (q : Queues T) (b : ℕ) (l : b < count-of q) (d : Ring) w
 
   pub has-room-no : r .len ≡ r .room → has-room-at (count-of q) (q .layout .each) b (queues q) ≡ false
   has-room-no h = and-right _ _ (le-ltb (length (queues q b)) (q .layout .each) (omega (arith, length-queue, ring-room)))
+
+-- no queue holds more than its room
+pub queue-within : {T : Type 0} (q : Queues T) (b : ℕ) → length (queues q b) ≤ q .layout .each
+queue-within q b = go (cases-lt b (count-of q))
+  where
+    go : (b < count-of q) ⊎ (count-of q ≤ b) → length (queues q b) ≤ q .layout .each
+    go (inl l) = omega (arith, length-queue q b l no-ring, ring-room q b l no-ring, getD (q .layout .rings) b no-ring .within .1)
+    go (inr h) = rw (queue-past q b h) zero-le

@@ -7,6 +7,6 @@ pub mod ring;
 #[derive(Clone, Copy, PartialEq, Eq, Debug)]
 pub struct Full;
 
-// The refusal of a layout that the lent places are too few for.
+// The refusal of a layout of more than 16 queues, or of more places than are lent.
 #[derive(Clone, Copy, PartialEq, Eq, Debug)]
 pub struct TooSmall;

@@ -1,5 +1,5 @@
-// Up to 16 queues over one lent slice. As with one queue, no ghost field stands beside the slice:
-// where fewer places are lent than the layout was made for, there is no queue.
+// Up to 16 queues over one lent slice. It has no ghost field beside the slice, so that other structs
+// can hold it by value: where fewer places are lent than the layout was made for, there is no queue.
 ghost use mathlib.Core.Path.{_≡_};
 ghost use Prim.Native.Nat.{ℕ, _*_, _<_, _≤_};
 ghost use lib.ListN.{length, getD};

@@ -1,6 +1,6 @@
 -- A fold of the same words in another order.
 use mathlib.Core.Path.{_≡_, refl, sym, ap, ap₂, _∙_}
-use mathlib.Core.List.{List, [], _∷_, List·Permᴰ, List·Permᴰ·nil, List·Permᴰ·cons, List·Permᴰ·swap, List·Permᴰ·trans}
+use mathlib.Core.List.{List, List·Permᴰ, List·Permᴰ·nil, List·Permᴰ·cons, List·Permᴰ·swap, List·Permᴰ·trans}
 use Rattle.std.specs.Iters.{folded}
 
 module _ {M : Type 0} (op : M → M → M) (assoc : (x y z : M) → op (op x y) z ≡ op x (op y z)) (comm : (x y : M) → op x y ≡ op y x) where

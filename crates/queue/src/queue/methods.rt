@@ -1,6 +1,6 @@
 ghost use mathlib.Core.Path.{_≡_};
 ghost use mathlib.Core.List.{[]};
-ghost use Prim.Native.Nat.{ℕ, _≤_};
+ghost use Prim.Native.Nat.{_≤_};
 ghost use lib.ListN.{length};
 ghost use Rattle.std.specs.shelf.Maps.{nth};
 ghost use Rattle.theory.specs.Lists.{head, tail};
@@ -86,6 +86,7 @@ impl<'a, T: Copy> Queue<'a, T> {
             None => None,
         }
     }
+
     // The ring, with as much room as there are places.
     fn fitted(&self) -> Ring
         ensures room { λ r. ⌜ length (now (now (self .entry) .places)) ≡ r .room ⌝ }

@@ -1,5 +1,4 @@
 use mathlib.Core.Path.{refl, sym, ap, _∙_}
-use Rattle.std.specs.declared.option.Option.the-variants.{Some}
 use Rattle.theory.specs.Lists.{head, tail}
 use Rattle.queue.proofs.Rings.{items-none, items-fit, items-popped}
 use Rattle.queue.proofs.queue.Queue.pop.Needs as need

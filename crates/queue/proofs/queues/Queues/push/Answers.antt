@@ -1,13 +1,11 @@
-use mathlib.Core.Path.{_≡_, refl, sym, ap, _∙_}
-use mathlib.Core.Bool.{false}
+use mathlib.Core.Path.{refl, ap, _∙_}
 use mathlib.Core.List.{[]}
-use Prim.Native.Nat.{ℕ, _<_, _≤_}
+use Prim.Native.Nat.{ℕ, _<_}
 use native.Mathlib.Omega.{arith}
 use lib.ListN.{length, set, length-set}
-use Rattle.std.proofs.shelf.Tests.{and-left, le-ltb, both-ways}
+use Rattle.std.proofs.shelf.Tests.{both-ways}
 use Rattle.theory.specs.Functions.{masked}
-use Rattle.queue.specs.Pushes.{has-room-at}
-use Rattle.queue.specs.QueuesOf.{queue-at, queues, count-of, each-of, counted}
+use Rattle.queue.specs.QueuesOf.{queue-at, count-of, counted}
 use Rattle.queue.proofs.QueuesOf.{ring-room, queues-pushed, has-room-yes, has-room-no}
 use Rattle.queue.proofs.queues.Queues.push.Needs as need
 
