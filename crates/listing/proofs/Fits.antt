@@ -33,7 +33,7 @@ use Rattle.listing.specs.declared.row.Row.{Row}
 use Rattle.listing.specs.Lines.{settings-names, call-names, then-read, row-of, call-of}
 use Rattle.listing.specs.Listing.{Out, in-line, performed, call-line, call-lines, begins, settings-in, stops, goes-on, from-line-3, after-set-up, set-up-by, from-line-2, from-line-1, framed, listing, pack-after}
 use Rattle.listing.specs.Numbers.{number, printed}
-use Rattle.listing.specs.Printed.{answer-line, figures-line}
+use Rattle.listing.specs.Printed.{Words, answer-line, figures-line}
 
 -- how many bytes some lines have
 abbrev pub total-length : List (List ℕ) → ℕ
@@ -178,8 +178,9 @@ figures-line-short f k m d =
 framed-length : (out : Out) → length (framed out) ≡ length (out .0) + length (figures-line (out .1 .result)) + 32
 framed-length out = simp length-append (omega arith)
 
-pub listing-fits : (brought : Brought) (input : List ℕ) (s : State) → length input ≤ 60000 → pack-after brought input s .result .kept < 2 ^ 64 → pack-after brought input s .result .messages < 2 ^ 64 → pack-after brought input s .result .freed < 2 ^ 64 → length (listing brought input s) ≤ 65536
-listing-fits brought input s h kept messages freed =
+pub listing-fits : (brought : Brought) (input : List ℕ) (s : State) → length input ≤ 60000 → Words (pack-after brought input s .result) → length (listing brought input s) ≤ 65536
+unfolding listing pack-after
+listing-fits brought input s h words =
     let out = from-line-1 brought (lines input) s in
     let count = count-lines input in
-    omega (arith, framed-length out, total-lines input, from-1-fits brought (lines input) s (omega arith), figures-line-short (out .1 .result) kept messages freed)
+    omega (arith, framed-length out, total-lines input, from-1-fits brought (lines input) s (omega arith), figures-line-short (out .1 .result) (words .0) (words .1) (words .2))

@@ -1,8 +1,11 @@
 -- The listing of a file, to the byte.
-use mathlib.Core.Bool.{Bool, false, cond}
+use mathlib.Core.Path.{_≡_}
+use mathlib.Core.Bool.{Bool, false, cond, _||_}
 use mathlib.Core.List.{List, [], _∷_, _++_}
 use Prim.Native.Nat.{ℕ, _+_}
 use lib.Chars.{codes}
+use lib.Dec.{ltb}
+use lib.ListN.{length, take, drop}
 use Rattle.std.specs.declared.option.Option.{Option}
 use Rattle.std.specs.declared.option.Option.the-variants.{Some, None}
 use Rattle.std.specs.declared.result.Result.{Result}
@@ -88,8 +91,18 @@ abbrev pub framed : Out → List ℕ
 framed out = codes "line answer\n" ++ (out .0 ++ (codes "kept messages freed\n" ++ figures-line (out .1 .result)))
 
 -- the listing of a file, on a pack over so much memory, and the pack afterwards
-abbrev pub listing : Brought → List ℕ → State → List ℕ
+unfoldable pub listing : Brought → List ℕ → State → List ℕ
 listing brought input s = framed (from-line-1 brought (lines input) s)
 
-abbrev pub pack-after : Brought → List ℕ → State → State
+unfoldable pub pack-after : Brought → List ℕ → State → State
 pack-after brought input s = from-line-1 brought (lines input) s .1
+
+-- more bytes than a file may have, or fewer than a listing's place must have
+abbrev pub too-large : ℕ → ℕ → Bool
+too-large input place = ltb 60000 input || ltb place 65536
+
+-- just this text stands in the first n bytes of the place, and the rest is as it was
+pub record Listed (text before after : List ℕ) (n : ℕ) : Type 0 where
+  pub count : n ≡ length text
+  pub front : take n after ≡ text
+  pub behind : drop n after ≡ drop n before

@@ -2,10 +2,9 @@
 ghost use mathlib.Core.Path.{_≡_};
 ghost use Rattle.text.specs.Written.{Wrote};
 ghost use Rattle.listing.specs.Numbers.{printed};
-ghost use Rattle.listing.specs.Printed.{answer-line, figures-line};
+ghost use Rattle.listing.specs.Printed.{Words, answer-line, figures-line};
 use crate::fault::Refusal;
 use text::writer::Writer;
-use theory::state::Figures;
 
 // What is printed as the answer: the deliveries of an accepted call, or the number of its refusal.
 fn number_of(answer: Result<u32, Refusal>) -> u64
@@ -27,13 +26,15 @@ pub fn answer_line(writer: &mut Writer<'_>, line: usize, answer: Result<u32, Ref
     writer.byte(b'\n');
 }
 
-pub fn figures_line(writer: &mut Writer<'_>, figures: Figures)
-    ensures { λ _. ⌜ Wrote (now (writer .entry)) (now (writer .exit)) (figures-line figures) ⌝ }
+// The three figures of a collection, each of which has 64 bits.
+pub fn figures_line(writer: &mut Writer<'_>, kept: u64, messages: u64, freed: u64)
+    ensures text { λ _. ⌜ Wrote (now (writer .entry)) (now (writer .exit)) (figures-line (record { kept = kept; messages = messages; freed = freed })) ⌝ }
+    ensures words { λ _. ⌜ Words (record { kept = kept; messages = messages; freed = freed }) ⌝ }
 {
-    writer.number(figures.kept);
+    writer.number(kept);
     writer.byte(b' ');
-    writer.number(figures.messages);
+    writer.number(messages);
     writer.byte(b' ');
-    writer.number(figures.freed);
+    writer.number(freed);
     writer.byte(b'\n');
 }

@@ -31,7 +31,11 @@ fn perform<W: Wire, T>(pack: &mut Pack<'_, W, T>, row: Row) -> Result<u32, Refus
 }
 
 // Every call line, until one is malformed.
-fn calls<W: Wire, T>(pack: &mut Pack<'_, W, T>, reader: &mut Reader<'_>, writer: &mut Writer<'_>) -> Result<(), LineFault>
+fn calls<W: Wire, T>(
+    pack: &mut Pack<'_, W, T>,
+    reader: &mut Reader<'_>,
+    writer: &mut Writer<'_>,
+) -> Result<(), LineFault>
     ensures text { λ r. ⌜ Toward (now (writer .entry)) (now (writer .exit)) (ending r) (call-lines (given (now (reader .entry)) + 1) (lines (left (now (reader .entry)))) (state width capacity waiting (now (pack .entry))) .0) ⌝ }
     ensures pack { λ r. ⌜ state width capacity waiting (now (pack .exit)) ≡ call-lines (given (now (reader .entry)) + 1) (lines (left (now (reader .entry)))) (state width capacity waiting (now (pack .entry))) .1 ⌝ }
 {
@@ -49,7 +53,11 @@ fn calls<W: Wire, T>(pack: &mut Pack<'_, W, T>, reader: &mut Reader<'_>, writer:
 }
 
 // The settings, and then every call line, until reading stops.
-pub fn script<W: Wire, T>(pack: &mut Pack<'_, W, T>, reader: &mut Reader<'_>, writer: &mut Writer<'_>) -> Result<(), LineFault>
+pub fn script<W: Wire, T>(
+    pack: &mut Pack<'_, W, T>,
+    reader: &mut Reader<'_>,
+    writer: &mut Writer<'_>,
+) -> Result<(), LineFault>
     requires { ⌜ given (now reader) ≡ 0 ⌝ }
     ensures text { λ r. ⌜ Toward (now (writer .entry)) (now (writer .exit)) (ending r) (from-line-1 (memory (now (pack .entry))) (lines (left (now (reader .entry)))) (state width capacity waiting (now (pack .entry))) .0) ⌝ }
     ensures pack { λ r. ⌜ state width capacity waiting (now (pack .exit)) ≡ from-line-1 (memory (now (pack .entry))) (lines (left (now (reader .entry)))) (state width capacity waiting (now (pack .entry))) .1 ⌝ }
