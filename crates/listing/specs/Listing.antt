@@ -2,7 +2,7 @@
 use mathlib.Core.Path.{_≡_}
 use mathlib.Core.Bool.{Bool, false, cond, _||_}
 use mathlib.Core.List.{List, [], _∷_, _++_}
-use Prim.Native.Nat.{ℕ, _+_}
+use Prim.Native.Nat.{ℕ, _+_, _≤_}
 use lib.Chars.{codes}
 use lib.Dec.{ltb}
 use lib.ListN.{length, take, drop}
@@ -103,6 +103,7 @@ too-large input place = ltb 60000 input || ltb place 65536
 
 -- just this text stands in the first n bytes of the place, and the rest is as it was
 pub record Listed (text before after : List ℕ) (n : ℕ) : Type 0 where
+  pub within : n ≤ length after
   pub count : n ≡ length text
   pub front : take n after ≡ text
   pub behind : drop n after ≡ drop n before

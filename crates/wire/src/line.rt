@@ -1,7 +1,7 @@
 // A wire over one lent slice.
 use theory::message::Message;
 
-mod calls;
+pub mod calls;
 
 // A message under way from one board to another.
 #[derive(Clone, Copy)]

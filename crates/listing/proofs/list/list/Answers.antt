@@ -21,6 +21,6 @@ returns g c =
     let fits : length text ≤ 65536 = listing-fits (memory (c .args .pack .now)) (c .args .input .now) s (omega arith) words in
     let front : take (c .fill .result) (c .fill .last .place) ≡ text = f .front ∙ take-all (length (c .args .place .now)) text (omega arith) in (
       grind (arith, tells),
-      record { count = sym (length-take-le (c .fill .result) (c .fill .last .place) (f .within)) ∙ ap length front; front = front; behind = f .behind },
+      record { within = f .within; count = sym (length-take-le (c .fill .result) (c .fill .last .place) (f .within)) ∙ ap length front; front = front; behind = f .behind },
       f .pack,
     )
