@@ -23,14 +23,14 @@ fn wipe<T: Copy>(part: &mut [T], from: usize, count: usize, x: T)
     }
 }
 
-pub fn fill<T: Copy>(xs: &mut [T], x: T)
+pub(crate) fn fill<T: Copy>(xs: &mut [T], x: T)
     ensures { λ _. ⌜ now (xs .exit) ≡ replicate (length (now (xs .entry))) x ⌝ }
 {
     let count = xs.len();
     wipe(xs, 0, count, x);
 }
 
-pub fn read_in<T: Copy>(xs: &[T], each: u32, b: u32, at: u32) -> T
+pub(crate) fn read_in<T: Copy>(xs: &[T], each: u32, b: u32, at: u32) -> T
     requires part { ⌜ b * each + each ≤ length (now xs) ⌝ }
     requires place { ⌜ at < each ⌝ }
     ensures { λ r. ⌜ ((d : T) → r ≡ getD (parts (now (xs .entry)) each b) at d) ⌝ }
@@ -38,7 +38,7 @@ pub fn read_in<T: Copy>(xs: &[T], each: u32, b: u32, at: u32) -> T
     xs[b as usize * each as usize + at as usize]
 }
 
-pub fn store_in<T: Copy>(xs: &mut [T], each: u32, b: u32, at: usize, x: T)
+pub(crate) fn store_in<T: Copy>(xs: &mut [T], each: u32, b: u32, at: usize, x: T)
     requires { ⌜ b * each + each ≤ length (now xs) ⌝ }
     ensures room { λ _. ⌜ length (now (xs .exit)) ≡ length (now (xs .entry)) ⌝ }
     ensures after { λ _. ⌜ parts (now (xs .exit)) each ≡ put (parts (now (xs .entry)) each) b (set (parts (now (xs .entry)) each b) at x) ⌝ }
@@ -48,7 +48,7 @@ pub fn store_in<T: Copy>(xs: &mut [T], each: u32, b: u32, at: usize, x: T)
     store(&mut xs[start..end], at, x);
 }
 
-pub fn wipe_in<T: Copy>(xs: &mut [T], each: u32, b: u32, from: u32, count: u32, x: T)
+pub(crate) fn wipe_in<T: Copy>(xs: &mut [T], each: u32, b: u32, from: u32, count: u32, x: T)
     requires part { ⌜ b * each + each ≤ length (now xs) ⌝ }
     requires places { ⌜ from + count ≤ each ⌝ }
     ensures room { λ _. ⌜ length (now (xs .exit)) ≡ length (now (xs .entry)) ⌝ }

@@ -23,7 +23,7 @@ fn number_one(free: &mut Queues<'_, u16>, b: usize, each: u16)
 }
 
 // Lays out `count` queues with all the numbers below `each` in each.
-pub fn number_all(free: &mut Queues<'_, u16>, count: usize, each: u16)
+pub(crate) fn number_all(free: &mut Queues<'_, u16>, count: usize, each: u16)
     requires few { ⌜ count ≤ 16 ⌝ }
     requires room { ⌜ count * each ≤ places-len (now free) ⌝ }
     ensures after { λ _. ⌜ queues (now (free .exit)) ≡ masked count [] (λ _. below each) ⌝ }

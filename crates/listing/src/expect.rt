@@ -18,7 +18,11 @@ use text::reader::Reader;
 use theory::state::Settings;
 
 // The next line has just these names.
-pub fn expect_names(reader: &mut Reader<'_>, number: usize, names: &[u8]) -> Result<(), LineFault>
+pub(crate) fn expect_names(
+    reader: &mut Reader<'_>,
+    number: usize,
+    names: &[u8],
+) -> Result<(), LineFault>
     ensures { λ r. ⌜ Cases r
         (λ _. (begins (now (names .entry)) (lines (left (now (reader .entry)))) ≡ true)
         × (lines (left (now (reader .exit))) ≡ tail (lines (left (now (reader .entry)))))
@@ -40,7 +44,7 @@ pub fn expect_names(reader: &mut Reader<'_>, number: usize, names: &[u8]) -> Res
 }
 
 // The next line has the settings.
-pub fn expect_settings(reader: &mut Reader<'_>, number: usize) -> Result<Settings, LineFault>
+pub(crate) fn expect_settings(reader: &mut Reader<'_>, number: usize) -> Result<Settings, LineFault>
     ensures { λ r. ⌜ Cases r
         (λ t. (settings-in (lines (left (now (reader .entry)))) ≡ Some t)
         × (lines (left (now (reader .exit))) ≡ tail (lines (left (now (reader .entry)))))

@@ -41,7 +41,7 @@ impl Refusal {
             Refusal::Names => 2,
             Refusal::Values => 3,
             Refusal::Code => 4,
-            Refusal::Pack(fault) => fault.number(),
+            Refusal::Pack(inner) => inner.number(),
         }
     }
 }

@@ -3,5 +3,5 @@ mod expect;
 pub mod fault;
 pub mod list;
 mod print;
-pub mod row;
+mod row;
 mod script;

@@ -17,7 +17,7 @@ fn number_of(answer: Result<u32, Refusal>) -> u64
 }
 
 // The number of a line, and its answer.
-pub fn answer_line(writer: &mut Writer<'_>, line: usize, answer: Result<u32, Refusal>)
+pub(crate) fn answer_line(writer: &mut Writer<'_>, line: usize, answer: Result<u32, Refusal>)
     ensures { λ _. ⌜ Wrote (now (writer .entry)) (now (writer .exit)) (answer-line line answer) ⌝ }
 {
     writer.number(line as u64);
@@ -27,7 +27,7 @@ pub fn answer_line(writer: &mut Writer<'_>, line: usize, answer: Result<u32, Ref
 }
 
 // The three figures of a collection, each of which has 64 bits.
-pub fn figures_line(writer: &mut Writer<'_>, kept: u64, messages: u64, freed: u64)
+pub(crate) fn figures_line(writer: &mut Writer<'_>, kept: u64, messages: u64, freed: u64)
     ensures text { λ _. ⌜ Wrote (now (writer .entry)) (now (writer .exit)) (figures-line (record { kept = kept; messages = messages; freed = freed })) ⌝ }
     ensures words { λ _. ⌜ Words (record { kept = kept; messages = messages; freed = freed }) ⌝ }
 {

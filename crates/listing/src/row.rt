@@ -8,7 +8,7 @@ use theory::state::Settings;
 
 // The five numbers of a call line.
 #[derive(Clone, Copy)]
-pub struct Row {
+pub(crate) struct Row {
     pub code: u32,
     pub board: u32,
     pub a: u32,
@@ -17,7 +17,7 @@ pub struct Row {
 }
 
 impl Row {
-    pub fn of(line: Line<'_>) -> Option<Row>
+    pub(crate) fn of(line: Line<'_>) -> Option<Row>
         ensures { λ r. ⌜ r ≡ row-of (now (line .entry .text)) ⌝ }
     {
         let mut fields = Fields::of(line);
@@ -36,7 +36,7 @@ impl Row {
     }
 
     // The call that the code names, with its arguments in order.
-    pub fn call(self) -> Option<Call>
+    pub(crate) fn call(self) -> Option<Call>
         ensures { λ r. ⌜ r ≡ call-of self ⌝ }
     {
         let Row {
@@ -65,7 +65,7 @@ impl Row {
 }
 
 // The four numbers of the settings line.
-pub fn settings(line: Line<'_>) -> Option<Settings>
+pub(crate) fn settings(line: Line<'_>) -> Option<Settings>
     ensures { λ r. ⌜ r ≡ settings-of (now (line .entry .text)) ⌝ }
 {
     let mut fields = Fields::of(line);

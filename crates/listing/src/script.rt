@@ -53,7 +53,7 @@ fn calls<W: Wire, T>(
 }
 
 // The settings, and then every call line, until reading stops.
-pub fn script<W: Wire, T>(
+pub(crate) fn script<W: Wire, T>(
     pack: &mut Pack<'_, W, T>,
     reader: &mut Reader<'_>,
     writer: &mut Writer<'_>,

@@ -20,7 +20,7 @@ use theory::message::Message;
 use theory::message::Operation;
 use wire::line::Letter;
 use wire::line::Line;
-use wire::line::calls::LineWire;
+use wire::line::wire::LineWire;
 
 // One byte more than a file may have, so that a longer one is seen to be too long.
 const BUFFER: usize = MOST_INPUT + 1;

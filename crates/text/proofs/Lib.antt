@@ -1,11 +1,8 @@
-pub mod Back
 pub mod Cuts
 pub mod Ended
 pub mod Equal
 pub mod Fitted
 pub mod Numerals
-pub mod Pieces
-pub mod Spaces
 pub mod Valued
 pub mod Widths
 pub mod Writes

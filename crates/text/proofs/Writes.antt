@@ -49,27 +49,6 @@ _then_ {u} {v} {w} {xs} {ys} a b =
 pub wrote-whole : {v w : Writer} {xs : List ℕ} → Wrote v w xs → length (written v) + length xs ≤ room v → written w ≡ written v ++ xs
 wrote-whole {v} {w} {xs} a h = a .text ∙ take-all (room v) (written v ++ xs) (omega (arith, length-append (written v) xs))
 
--- of a writer that had written nothing
-pub wrote-first : {v w : Writer} {xs : List ℕ} → Wrote v w xs → written v ≡ [] → written w ≡ take (room v) xs
-wrote-first {v} {w} {xs} a e = a .text ∙ ap (λ z. take (room v) (z ++ xs)) e
-
--- how much is written, and what the whole place then holds
-pub wrote-length : {v w : Writer} {xs : List ℕ} → Wrote v w xs → length (written w) ≡ min (room v) (length (written v) + length xs)
-wrote-length {v} {w} {xs} a = ap length (a .text) ∙ length-take (room v) (written v ++ xs) ∙ ap (min (room v)) (length-append (written v) xs)
-
-pub wrote-place : {v w : Writer} {xs : List ℕ} → Wrote v w xs → now (w .place) ≡ written w ++ drop (length (written w)) (now (v .place))
-wrote-place {v} {w} {xs} a =
-    let l : length (written w) ≡ w .len = length-take-le (w .len) (now (w .place)) (w .ok) in
-    sym (take-append-drop (w .len) (now (w .place))) ∙ ap (λ n. written w ++ drop n (now (w .place))) (sym l) ∙ ap (λ z. written w ++ z) (a .after)
-
--- a loop that writes the text of each element in turn
-pub wrote-joined-none : {X : Type 0} (w : Writer) (f : X → List ℕ) (xs : List X) → Wrote w w (joined f (take 0 xs))
-wrote-joined-none w f xs = wrote-nothing w
-
-pub wrote-joined-more : {X : Type 0} {v w x : Writer} (f : X → List ℕ) (xs : List X) (i : ℕ) (d : X) → i < length xs
-    → Wrote v w (joined f (take i xs)) → Wrote w x (f (getD xs i d)) → Wrote v x (joined f (take (i + 1) xs))
-wrote-joined-more f xs i d h a b = rw (take-more xs i d h, ← joined-more f [] (take i xs) (getD xs i d)) (a then b)
-
 -- the bytes of a text one by one
 pub wrote-more : {v w x : Writer} (bytes : List ℕ) (i : ℕ) → i < length bytes → Wrote v w (take i bytes) → Wrote w x (getD bytes i 0 ∷ []) → Wrote v x (take (i + 1) bytes)
 wrote-more {v} {w} {x} bytes i h a b = rw (take-more bytes i 0 h) (a then b)

@@ -2,5 +2,4 @@
 pub mod bytes;
 pub mod fields;
 pub mod reader;
-pub mod row;
 pub mod writer;

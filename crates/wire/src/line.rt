@@ -1,7 +1,8 @@
 // A wire over one lent slice.
 use theory::message::Message;
 
-pub mod calls;
+mod open;
+pub mod wire;
 
 // A message under way from one board to another.
 #[derive(Clone, Copy)]

@@ -18,7 +18,7 @@ use wire::wire::Wire;
 
 impl<W: Wire> Core<'_, W> {
     // So many cells from a place on become the value 0.
-    pub fn wipe(&mut self, b: u32, from: u32, count: u32)
+    fn wipe(&mut self, b: u32, from: u32, count: u32)
         requires sound { ⌜ Sound (now self) ⌝ }
         requires board { ⌜ b < now self .settings .boards ⌝ }
         requires places { ⌜ from + count ≤ now self .settings .cells ⌝ }
@@ -28,7 +28,7 @@ impl<W: Wire> Core<'_, W> {
         wipe_in(self.cells, each, b, from, count, Cell::Value(0));
     }
 
-    pub fn put_entry(&mut self, b: u32, entry: u16, v: Entry)
+    fn put_entry(&mut self, b: u32, entry: u16, v: Entry)
         requires sound { ⌜ Sound (now self) ⌝ }
         requires board { ⌜ b < now self .settings .boards ⌝ }
         ensures { λ _. ⌜ Changed width capacity waiting (now (self .entry)) (now (self .exit)) b (λ x. with-entries (set (x .entries) entry v) x) ⌝ }
@@ -46,7 +46,7 @@ impl<W: Wire> Core<'_, W> {
         self.registers[b as usize].slots[slot as usize] = v;
     }
 
-    pub fn put_top(&mut self, b: u32, v: u32)
+    fn put_top(&mut self, b: u32, v: u32)
         requires sound { ⌜ Sound (now self) ⌝ }
         requires board { ⌜ b < now self .settings .boards ⌝ }
         ensures { λ _. ⌜ Changed width capacity waiting (now (self .entry)) (now (self .exit)) b (with-top v) ⌝ }
@@ -55,7 +55,7 @@ impl<W: Wire> Core<'_, W> {
     }
 
     // The first free entry leaves its queue.
-    pub fn take_free(&mut self, b: u32)
+    fn take_free(&mut self, b: u32)
         requires sound { ⌜ Sound (now self) ⌝ }
         requires board { ⌜ b < now self .settings .boards ⌝ }
         ensures { λ _. ⌜ Changed width capacity waiting (now (self .entry)) (now (self .exit)) b (λ x. with-free (tail (x .free)) x) ⌝ }

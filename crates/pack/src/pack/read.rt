@@ -9,16 +9,9 @@ use theory::memory::Entry;
 use theory::memory::Mode;
 use theory::memory::Outcome;
 use theory::state::Figures;
-use theory::state::Settings;
 use wire::wire::Wire;
 
 impl<W: Wire, T> Pack<'_, W, T> {
-    pub fn settings(&self) -> Settings
-        ensures { λ r. ⌜ r ≡ state width capacity waiting (now (self .entry)) .settings ⌝ }
-    {
-        self.core.settings
-    }
-
     // The figures of the last collection, or zeros.
     pub fn result(&self) -> Figures
         ensures { λ r. ⌜ r ≡ state width capacity waiting (now (self .entry)) .result ⌝ }

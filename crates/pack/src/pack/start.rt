@@ -61,4 +61,11 @@ impl<'a, W: Wire, T> Pack<'a, W, T> {
         self.core.start(settings);
         Ok(())
     }
+
+    // What the pack was set up with, or zeros.
+    pub fn settings(&self) -> Settings
+        ensures { λ r. ⌜ r ≡ state width capacity waiting (now (self .entry)) .settings ⌝ }
+    {
+        self.core.settings
+    }
 }

@@ -1,6 +1,5 @@
 ghost use mathlib.Core.List.{[], _∷_};
 ghost use Rattle.std.specs.Written.{decimal};
-ghost use Rattle.text.specs.Rows.{row-of};
 ghost use Rattle.text.specs.Written.{Wrote};
 use super::Writer;
 
@@ -32,18 +31,5 @@ impl Writer<'_> {
             self.number(n / 10);
         }
         self.byte(b'0' + (n % 10) as u8);
-    }
-
-    // The numbers as one line, with a space between them.
-    pub fn row(&mut self, values: &[u64])
-        ensures { λ _. ⌜ Wrote (now (self .entry)) (now (self .exit)) (row-of (now (values .entry))) ⌝ }
-    {
-        for (i, n) in values.iter().enumerate() {
-            if i > 0 {
-                self.byte(b' ');
-            }
-            self.number(*n);
-        }
-        self.byte(b'\n');
     }
 }

@@ -1,11 +1,7 @@
 ghost use mathlib.Core.Path.{_≡_};
-ghost use mathlib.Core.List.{[]};
-ghost use lib.ListN.{length};
-ghost use denote.Ref.{now};
 ghost use Rattle.wire.specs.Opened.{opened, joins, letters-of};
 use super::Letter;
 use super::Line;
-use crate::wire::Wire;
 use theory::fault::PackFault;
 
 impl<'a> Line<'a> {
@@ -27,25 +23,5 @@ impl<'a> Line<'a> {
         }
         self.boards = boards;
         Ok(())
-    }
-}
-
-pub impl Wire for Line<'_> as LineWire {
-    ghost width = { λ w. w .boards };
-
-    ghost capacity = { λ w. length (now (w .letters)) };
-
-    ghost waiting = { λ _ _ _. [] };
-
-    fn boards(&self) -> u32 {
-        self.boards
-    }
-
-    fn places(&self) -> usize {
-        self.letters.len()
-    }
-
-    fn total(&self) -> usize {
-        0
     }
 }
