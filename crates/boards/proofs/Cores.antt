@@ -17,7 +17,7 @@ use Rattle.theory.proofs.Parts.{ends-within, length-parts}
 use Rattle.theory.proofs.States.{change-change}
 use Rattle.boards.specs.declared.core.Core.{Core}
 use Rattle.boards.specs.declared.registers.Registers.{Registers}
-use Rattle.boards.specs.Models.{look, looks, registers-of, no-registers, cells-of, entries-of, free-of, held-of, model, Sound, Changed}
+use Rattle.boards.specs.Models.{look, looks, registers-of, no-registers, cells-of, entries-of, free-of, held-of, brought, model, Sound, Changed}
 use Rattle.boards.proofs.Boards.{board-in, registers-changed}
 
 -- two changes of one board, one after the other
@@ -27,6 +27,7 @@ pub _then_ : {W : Type 0} {width capacity : W → ℕ} {waiting : W → Net} {p 
 _then_ {width = width} {capacity = capacity} {waiting = waiting} {p = p} {b = b} {f = f} {g = g} h k = record {
   sound = k .sound;
   settings = k .settings ∙ h .settings;
+  memory = k .memory ∙ h .memory;
   after = k .after ∙ ap (change b g) (h .after) ∙ change-change b f g (model width capacity waiting p);
 }
 
@@ -36,6 +37,7 @@ pub changed-alike : {W : Type 0} {width capacity : W → ℕ} {waiting : W → N
 changed-alike {width = width} {capacity = capacity} {waiting = waiting} {p = p} {b = b} h e = record {
   sound = h .sound;
   settings = h .settings;
+  memory = h .memory;
   after = h .after ∙ ap (λ x. with-boards (put (model width capacity waiting p .boards) b x) (model width capacity waiting p)) e;
 }
 
@@ -94,6 +96,7 @@ module _ {W : Type 0} (width capacity : W → ℕ) (waiting : W → Net) (p : Co
       record {
         sound = record { ranged = s .ranged; sized = (length-set (p .registers) b (y (getD (p .registers) b d)) ∙ s .sized .0, s .sized .1, s .sized .2); laid = s .laid };
         settings = refl {a = p .settings};
+        memory = refl {a = brought p};
         after = registers-changed (p .settings) (width (p .wire)) (capacity (p .wire)) (waiting (p .wire)) (p .lead) (p .result) b l
             r (cells-of p) (entries-of p) (free-of p) (held-of p)
             (registers-of (set (p .registers) b (y (getD (p .registers) b d)))) (y (getD (p .registers) b d)) f (set-put (p .registers) b (y (getD (p .registers) b d)) no-registers w)

@@ -13,7 +13,7 @@ use Rattle.theory.specs.declared.message.Held.{Held}
 use Rattle.theory.specs.declared.state.Settings.{Settings}
 use Rattle.theory.specs.Functions.{masked}
 use Rattle.theory.specs.Lists.{parts, below}
-use Rattle.theory.specs.SetUp.{Brought, fresh}
+use Rattle.theory.specs.SetUp.{fresh}
 use Rattle.theory.specs.State.{Board, no-board, no-entry}
 use Rattle.theory.proofs.Functions.{masked-in, masked-same}
 use Rattle.theory.proofs.Parts.{parts-replicate}
@@ -58,9 +58,3 @@ shown-fresh t r cs es fs hs m k few hm hk eb ec ee ef eh =
     ∙ ap (λ z. with-memory (replicate (t .cells) (Value 0)) z (fs b) (hs b) (fresh t)) e
     ∙ ap (λ z. with-memory (replicate (t .cells) (Value 0)) (replicate (t .entries) no-entry) z (hs b) (fresh t)) f
     ∙ ap (λ z. with-memory (replicate (t .cells) (Value 0)) (replicate (t .entries) no-entry) (below (t .entries)) z (fresh t)) h)
-
-abbrev sizes : ℕ → ℕ → ℕ → ℕ → Brought
-sizes cells entries free held = record { cells = cells; entries = entries; free = free; held = held }
-
-pub same-sizes : (a b c d w x y z : ℕ) → w ≡ a → x ≡ b → y ≡ c → z ≡ d → sizes w x y z ≡ sizes a b c d
-same-sizes a b c d w x y z p q r s = ap (λ k. sizes k x y z) p ∙ ap (λ k. sizes a k y z) q ∙ ap (λ k. sizes a b k z) r ∙ ap (sizes a b c) s

@@ -141,4 +141,5 @@ module _ {W : Type 0} where
     pub record Changed (p q : Core W) (b : ℕ) (f : Board → Board) : Type 0 where
       pub sound : Sound q
       pub settings : q .settings ≡ p .settings
+      pub memory : brought q ≡ brought p
       pub after : model q ≡ change b f (model p)

@@ -3,7 +3,7 @@ ghost use mathlib.Core.Path.{_≡_};
 ghost use Rattle.std.specs.Results.{Cases};
 ghost use Rattle.theory.specs.Make.{make};
 ghost use Rattle.theory.specs.SetSlot.{set-slot};
-ghost use Rattle.pack.specs.Shown.{state};
+ghost use Rattle.pack.specs.Shown.{state, memory};
 use super::Pack;
 use theory::fault::PackFault;
 use theory::memory::Cell;
@@ -12,8 +12,9 @@ use wire::wire::Wire;
 impl<W: Wire, T> Pack<'_, W, T> {
     // A new record of so many cells, all the value 0, which the slot refers to.
     pub fn make(&mut self, board: u32, slot: u32, size: u32) -> Result<(), PackFault>
-        ensures after { λ r. ⌜ (state width capacity waiting (now (self .exit)), r) ≡ make board slot size (state width capacity waiting (now (self .entry))) ⌝ }
-        ensures refused { λ r. ⌜ Cases r (λ _. Unit {0}) (λ _. now (self .exit) ≡ now (self .entry)) ⌝ }
+        ensures does_its_step { λ r. ⌜ (state width capacity waiting (now (self .exit)), r) ≡ make board slot size (state width capacity waiting (now (self .entry))) ⌝ }
+        ensures keeps_its_memory { λ _. ⌜ memory (now (self .exit)) ≡ memory (now (self .entry)) ⌝ }
+        ensures refused_leaves_all_as_it_was { λ r. ⌜ Cases r (λ _. Unit {0}) (λ _. now (self .exit) ≡ now (self .entry)) ⌝ }
     {
         if board >= self.core.settings.boards {
             return Err(PackFault::NoBoard);
@@ -46,8 +47,9 @@ impl<W: Wire, T> Pack<'_, W, T> {
 
     // The slot becomes a value.
     pub fn set(&mut self, board: u32, slot: u32, number: u32) -> Result<(), PackFault>
-        ensures after { λ r. ⌜ (state width capacity waiting (now (self .exit)), r) ≡ set-slot board slot number (state width capacity waiting (now (self .entry))) ⌝ }
-        ensures refused { λ r. ⌜ Cases r (λ _. Unit {0}) (λ _. now (self .exit) ≡ now (self .entry)) ⌝ }
+        ensures does_its_step { λ r. ⌜ (state width capacity waiting (now (self .exit)), r) ≡ set-slot board slot number (state width capacity waiting (now (self .entry))) ⌝ }
+        ensures keeps_its_memory { λ _. ⌜ memory (now (self .exit)) ≡ memory (now (self .entry)) ⌝ }
+        ensures refused_leaves_all_as_it_was { λ r. ⌜ Cases r (λ _. Unit {0}) (λ _. now (self .exit) ≡ now (self .entry)) ⌝ }
     {
         if board >= self.core.settings.boards {
             return Err(PackFault::NoBoard);

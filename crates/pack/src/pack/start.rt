@@ -51,9 +51,9 @@ impl<'a, W: Wire, T> Pack<'a, W, T> {
 
     // Sets the pack up with nothing in it, or refuses and leaves memory and wire as they were.
     pub fn set_up(&mut self, settings: Settings) -> Result<(), PackFault>
-        ensures after { λ r. ⌜ (state width capacity waiting (now (self .exit)), r) ≡ set-up (memory (now (self .entry))) settings (state width capacity waiting (now (self .entry))) ⌝ }
-        ensures memory { λ _. ⌜ memory (now (self .exit)) ≡ memory (now (self .entry)) ⌝ }
-        ensures refused { λ r. ⌜ Cases r (λ _. Unit {0}) (λ _. now (self .exit) ≡ now (self .entry)) ⌝ }
+        ensures does_its_step { λ r. ⌜ (state width capacity waiting (now (self .exit)), r) ≡ set-up (memory (now (self .entry))) settings (state width capacity waiting (now (self .entry))) ⌝ }
+        ensures keeps_its_memory { λ _. ⌜ memory (now (self .exit)) ≡ memory (now (self .entry)) ⌝ }
+        ensures refused_leaves_all_as_it_was { λ r. ⌜ Cases r (λ _. Unit {0}) (λ _. now (self .exit) ≡ now (self .entry)) ⌝ }
     {
         check_ranges(settings)?;
         self.core.check_memory(settings)?;

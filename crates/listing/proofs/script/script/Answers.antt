@@ -55,7 +55,7 @@ returns-in-Break-on-line g c =
     let f = c .in-Break-on-line .field-0 .0 in
     let h = on-line-err 2 f (c .set-up .result) (c .in-Break-on-line .ensures tt) in
     let e = refused-settings brought ls s (one .0) (c .in-Continue-settings .settings) t (h .0) (ap settings-in (sym (one .1)) ∙ two .0)
-    (ap (λ r. (t, r)) (sym (h .1 .0)) ∙ c .set-up .ensures .after) in
+    (ap (λ r. (t, r)) (sym (h .1 .0)) ∙ c .set-up .ensures .does-its-step) in
     let r = err-from-errBy (c .from-residual-in-Break-on-line .result) (c .from-residual-in-Break-on-line .ensures .1) in
     record {
       text = stopped (from-line-1 brought ls s) 2 (Pack (h .0)) t f (c .from-residual-in-Break-on-line .result) (toward-start _ _) e (h .1 .1) (r .1 ∙ ap Err (r .2));
@@ -73,7 +73,7 @@ returns-in-Break-expect-names-2 g c =
     let two = c .in-Continue-settings .ensures tt in
     let ok = on-line-ok 2 (c .in-Continue-on-line .field-0) (c .set-up .result) (c .in-Continue-on-line .ensures tt) in
     let e = settings-done brought ls s (one .0) (c .in-Continue-settings .settings) t (c .in-Continue-on-line .field-0) (ap settings-in (sym (one .1)) ∙ two .0)
-    (ap (λ r. (t, r)) (sym ok) ∙ c .set-up .ensures .after) in
+    (ap (λ r. (t, r)) (sym ok) ∙ c .set-up .ensures .does-its-step) in
     let h = c .in-Break-expect-names-2 .ensures tt in
     let k = wrong-call-names (tail (tail ls)) t (ap (begins call-names) (sym (two .1 ∙ ap tail (one .1))) ∙ h .0) in
     let f = c .in-Break-expect-names-2 .field-0 .0 in
@@ -96,7 +96,7 @@ returns g c =
     let three = c .in-Continue-expect-names-2 .ensures tt in
     let ok = on-line-ok 2 (c .in-Continue-on-line .field-0) (c .set-up .result) (c .in-Continue-on-line .ensures tt) in
     let e = settings-done brought ls s (one .0) (c .in-Continue-settings .settings) t (c .in-Continue-on-line .field-0) (ap settings-in (sym (one .1)) ∙ two .0)
-    (ap (λ r. (t, r)) (sym ok) ∙ c .set-up .ensures .after) in
+    (ap (λ r. (t, r)) (sym ok) ∙ c .set-up .ensures .does-its-step) in
     let past = two .1 ∙ ap tail (one .1) in
     let k = right-call-names (tail (tail ls)) t (ap (begins call-names) (sym past) ∙ three .0) in
     let last = c .expect-names-2 .last .reader in

@@ -9,7 +9,8 @@ use Rattle.queue.specs.QueuesOf.{queues, count-of, each-of, places-len}
 use Rattle.theory.specs.SetUp.{started}
 use Rattle.theory.specs.State.{with-boards}
 use Rattle.boards.specs.Models.{model}
-use Rattle.boards.proofs.Started.{own-credit, shown-fresh, same-sizes}
+use Rattle.boards.proofs.Sizes.{same-sizes}
+use Rattle.boards.proofs.Started.{own-credit, shown-fresh}
 use Rattle.boards.proofs.core.Core.start.Needs as need
 
 pub fresh-registers-self-requires : need.fresh-registers-self-requires

@@ -3,7 +3,7 @@ use Rattle.theory.specs.SetUp.{blank}
 use Rattle.theory.specs.State.{no-board, with-boards}
 use Rattle.theory.proofs.Functions.{masked-none}
 use Rattle.boards.specs.Models.{shown}
-use Rattle.boards.proofs.Started.{same-sizes}
+use Rattle.boards.proofs.Sizes.{same-sizes}
 use Rattle.pack.proofs.pack.Pack.over.Needs as need
 
 pub returns : need.returns
