@@ -1,16 +1,12 @@
-// What a board keeps beside its memory, and what there is before anything happened.
+// What a board keeps beside its memory.
 ghost use mathlib.Core.Path.{_≡_};
 ghost use Prim.Native.Nat.{ℕ, _<_, _≤_};
 ghost use lib.ListN.{length};
 ghost use Rattle.boards.specs.Models.{Bare};
 use purse::Purse;
 use theory::memory::Cell;
-use theory::memory::Entry;
 use theory::memory::Mode;
 use theory::memory::Outcome;
-use theory::memory::Parent;
-use theory::state::Figures;
-use theory::state::Lead;
 use theory::state::Round;
 
 #[derive(Clone, Copy)]
@@ -24,37 +20,6 @@ pub struct Registers {
     pub purse: Purse,
     pub round: Round,
 }
-
-pub const NO_ENTRY: Entry = Entry {
-    size: 0,
-    place: 0,
-    marked: false,
-    parent: Parent::Root { board: 0 },
-    gone: 0,
-    owing: 0,
-};
-
-pub const NO_ROUND: Round = Round {
-    sent: 0,
-    answered: 0,
-    started: false,
-    shoves: 0,
-    ends: 0,
-    taken: 0,
-};
-
-pub const NO_FIGURES: Figures = Figures {
-    kept: 0,
-    messages: 0,
-    freed: 0,
-};
-
-pub const NO_LEAD: Lead = Lead {
-    closing: false,
-    awaited: 0,
-    wish: false,
-    figures: NO_FIGURES,
-};
 
 // Sixteen boards with nothing on them, each with so much credit.
 pub fn fresh_registers(credit: u32, most: u32) -> [Registers; 16]
@@ -70,6 +35,6 @@ pub fn fresh_registers(credit: u32, most: u32) -> [Registers; 16]
         mode: Mode::Run,
         requested: false,
         purse: Purse::new(credit, most),
-        round: NO_ROUND,
+        round: Round::NONE,
     }; 16]
 }

@@ -15,7 +15,7 @@ use Rattle.text.specs.Same.{same-bytes}
 use Rattle.theory.specs.declared.call.Call.{Call}
 use Rattle.theory.specs.declared.state.Settings.{Settings}
 use Rattle.theory.specs.Answer.{Answer}
-use Rattle.theory.specs.Calls.{Reply, step}
+use Rattle.theory.specs.Calls.{Response, step}
 use Rattle.theory.specs.Lists.{tail}
 use Rattle.theory.specs.SetUp.{Brought, set-up}
 use Rattle.theory.specs.State.{State}
@@ -38,7 +38,7 @@ abbrev pub goes-on : ℕ → Result ℕ Refusal → Out → Out
 goes-on line r next = (answer-line line r ++ next .0, next .1)
 
 -- a pack's own refusal, in a line's
-abbrev pub in-line : Reply → Result ℕ Refusal
+abbrev pub in-line : Response → Result ℕ Refusal
 in-line (Ok n) = Ok n
 in-line (Err e) = Err (Pack e)
 

@@ -16,6 +16,7 @@ use crate::print::answer_line;
 use crate::print::figures_line;
 use crate::script::script;
 use pack::pack::Pack;
+use tally::Tally;
 use text::reader::Reader;
 use text::writer::Writer;
 use wire::wire::Wire;
@@ -26,7 +27,11 @@ pub const MOST_INPUT: usize = 60_000;
 pub const LEAST_PLACE: usize = 65_536;
 
 // The answers of every line.
-fn answers<W: Wire, T>(pack: &mut Pack<'_, W, T>, reader: &mut Reader<'_>, writer: &mut Writer<'_>)
+fn answers<W: Wire, T: Tally>(
+    pack: &mut Pack<'_, W, T>,
+    reader: &mut Reader<'_>,
+    writer: &mut Writer<'_>,
+)
     requires { ⌜ given (now reader) ≡ 0 ⌝ }
     ensures text { λ _. ⌜ Wrote (now (writer .entry)) (now (writer .exit)) (from-line-1 (memory (now (pack .entry))) (lines (left (now (reader .entry)))) (state width capacity waiting (now (pack .entry))) .0) ⌝ }
     ensures pack { λ _. ⌜ state width capacity waiting (now (pack .exit)) ≡ from-line-1 (memory (now (pack .entry))) (lines (left (now (reader .entry)))) (state width capacity waiting (now (pack .entry))) .1 ⌝ }
@@ -38,7 +43,11 @@ fn answers<W: Wire, T>(pack: &mut Pack<'_, W, T>, reader: &mut Reader<'_>, write
 }
 
 // The whole listing.
-fn write_listing<W: Wire, T>(pack: &mut Pack<'_, W, T>, input: &[u8], writer: &mut Writer<'_>)
+fn write_listing<W: Wire, T: Tally>(
+    pack: &mut Pack<'_, W, T>,
+    input: &[u8],
+    writer: &mut Writer<'_>,
+)
     ensures text { λ _. ⌜ Wrote (now (writer .entry)) (now (writer .exit)) (listing (memory (now (pack .entry))) (now (input .entry)) (state width capacity waiting (now (pack .entry)))) ⌝ }
     ensures pack { λ _. ⌜ state width capacity waiting (now (pack .exit)) ≡ pack-after (memory (now (pack .entry))) (now (input .entry)) (state width capacity waiting (now (pack .entry))) ⌝ }
     ensures words { λ _. ⌜ Words (state width capacity waiting (now (pack .exit)) .result) ⌝ }
@@ -52,7 +61,7 @@ fn write_listing<W: Wire, T>(pack: &mut Pack<'_, W, T>, input: &[u8], writer: &m
 }
 
 // As much of the listing as the place has room for.
-fn fill<W: Wire, T>(pack: &mut Pack<'_, W, T>, input: &[u8], place: &mut [u8]) -> usize
+fn fill<W: Wire, T: Tally>(pack: &mut Pack<'_, W, T>, input: &[u8], place: &mut [u8]) -> usize
     ensures front { λ r. ⌜ take r (now (place .exit)) ≡ take (length (now (place .entry))) (listing (memory (now (pack .entry))) (now (input .entry)) (state width capacity waiting (now (pack .entry)))) ⌝ }
     ensures behind { λ r. ⌜ drop r (now (place .exit)) ≡ drop r (now (place .entry)) ⌝ }
     ensures within { λ r. ⌜ r ≤ length (now (place .exit)) ⌝ }
@@ -67,7 +76,7 @@ fn fill<W: Wire, T>(pack: &mut Pack<'_, W, T>, input: &[u8], place: &mut [u8]) -
 // Writes the listing of a file to the front of a place and says how long it is; the rest of the place
 // stays as it was. It always fits. A file that is too long, or a place that is too short, is refused,
 // and then neither the place nor the pack is touched.
-pub fn list<W: Wire, T>(
+pub fn list<W: Wire, T: Tally>(
     pack: &mut Pack<'_, W, T>,
     input: &[u8],
     place: &mut [u8],

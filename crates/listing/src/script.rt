@@ -16,12 +16,13 @@ use crate::fault::on_line;
 use crate::print::answer_line;
 use crate::row::Row;
 use pack::pack::Pack;
+use tally::Tally;
 use text::reader::Reader;
 use text::writer::Writer;
 use wire::wire::Wire;
 
 // The call of a line, where its code names one.
-fn perform<W: Wire, T>(pack: &mut Pack<'_, W, T>, row: Row) -> Result<u32, Refusal>
+fn perform<W: Wire, T: Tally>(pack: &mut Pack<'_, W, T>, row: Row) -> Result<u32, Refusal>
     ensures { λ r. ⌜ (state width capacity waiting (now (pack .exit)), r) ≡ performed (call-of row) (state width capacity waiting (now (pack .entry))) ⌝ }
 {
     let Some(call) = row.call() else {
@@ -31,7 +32,7 @@ fn perform<W: Wire, T>(pack: &mut Pack<'_, W, T>, row: Row) -> Result<u32, Refus
 }
 
 // Every call line, until one is malformed.
-fn calls<W: Wire, T>(
+fn calls<W: Wire, T: Tally>(
     pack: &mut Pack<'_, W, T>,
     reader: &mut Reader<'_>,
     writer: &mut Writer<'_>,
@@ -53,7 +54,7 @@ fn calls<W: Wire, T>(
 }
 
 // The settings, and then every call line, until reading stops.
-pub(crate) fn script<W: Wire, T>(
+pub(crate) fn script<W: Wire, T: Tally>(
     pack: &mut Pack<'_, W, T>,
     reader: &mut Reader<'_>,
     writer: &mut Writer<'_>,

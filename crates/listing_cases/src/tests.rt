@@ -1,10 +1,10 @@
-use crate::bench::listing_of;
 use crate::cases::Case;
 use crate::cases::call_line;
 use crate::cases::calls;
 use crate::cases::names;
 use crate::cases::settings;
 use crate::cases::settings_line;
+use crate::harness::listing_of;
 use listing::fault::Refusal;
 use listing::fault::RefusalPartialEq;
 use listing::list::MOST_INPUT;

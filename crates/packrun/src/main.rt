@@ -2,7 +2,6 @@
 ghost use Prim.Native.Nat.{_≤_};
 ghost use lib.ListN.{length};
 ghost use Rattle.std.specs.Vec.{made};
-use boards::registers::NO_ENTRY;
 use listing::list::LEAST_PLACE;
 use listing::list::MOST_INPUT;
 use listing::list::list;
@@ -13,30 +12,16 @@ use std::io;
 use std::io::Read;
 use std::io::Write;
 use tally::Cells;
+use tally::CellsTally;
 use theory::memory::Cell;
-use theory::memory::Outcome;
+use theory::memory::Entry;
 use theory::message::Held;
-use theory::message::Message;
-use theory::message::Operation;
 use wire::line::Letter;
 use wire::line::Line;
 use wire::line::wire::LineWire;
 
 // One byte more than a file may have, so that a longer one is seen to be too long.
 const BUFFER: usize = MOST_INPUT + 1;
-
-const NOTHING_HELD: Held = Held {
-    from: 0,
-    operation: Operation::Ack {
-        outcome: Outcome::Done,
-    },
-};
-
-const NO_LETTER: Letter = Letter {
-    from: 0,
-    to: 0,
-    message: Message::Want,
-};
 
 // Reads until the buffer is full or the input ends.
 fn read_all<R: Read>(input: &mut R, buffer: &mut [u8]) -> io::Result<usize>
@@ -59,10 +44,10 @@ fn main(rt: LibcRuntime) -> Result<(), AnyError> {
     let mut buffer = vec![in heap; 0; BUFFER]?;
     let n = read_all(&mut rt.stdin(), &mut buffer)?;
     let mut cells = vec![in heap; Cell::Value(0); 4096]?;
-    let mut entries = vec![in heap; NO_ENTRY; 512]?;
+    let mut entries = vec![in heap; Entry::FREE; 512]?;
     let mut free = vec![in heap; 0; 512]?;
-    let mut held = vec![in heap; NOTHING_HELD; 256]?;
-    let mut letters = vec![in heap; NO_LETTER; 1325]?;
+    let mut held = vec![in heap; Held::BLANK; 256]?;
+    let mut letters = vec![in heap; Letter::BLANK; 1325]?;
     let mut place = vec![in heap; 0; LEAST_PLACE]?;
     let mut line = Line::over(&mut letters);
     let _ = line.open(16);

@@ -12,15 +12,15 @@ use Rattle.theory.specs.Make.{make}
 use Rattle.theory.specs.SetSlot.{set-slot}
 
 -- what any call answers: how many deliveries it made, or why it was refused
-abbrev pub Reply : Type 0
-Reply = Result ℕ PackFault
+abbrev pub Response : Type 0
+Response = Result ℕ PackFault
 
 -- a call that makes no delivery
-abbrev pub without-delivery : State × Answer → State × Reply
+abbrev pub without-delivery : State × Answer → State × Response
 without-delivery (s, Ok _) = (s, Ok 0)
 without-delivery (s, Err e) = (s, Err e)
 
-abbrev pub step : Call → State → State × Reply
+abbrev pub step : Call → State → State × Response
 step (Make b slot size) s = without-delivery (make b slot size s)
 step (Set b slot number) s = without-delivery (set-slot b slot number s)
 

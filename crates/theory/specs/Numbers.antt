@@ -1,7 +1,5 @@
 -- The number of each refusal.
 use Prim.Native.Nat.{ℕ}
-use Rattle.std.specs.declared.result.Result.{Result}
-use Rattle.std.specs.declared.result.Result.the-variants.{Ok, Err}
 use Rattle.theory.specs.declared.fault.PackFault.{PackFault}
 use Rattle.theory.specs.declared.fault.PackFault.the-variants.{Setting, Memory, SmallWire, BusyWire, NoBoard, NoSlot, BadSize, BadOffset, Collecting, Waiting, NoReference, PastEnd, NoEntry, NoRoom, Requested, NothingWaits}
 

@@ -1,5 +1,5 @@
 -- A pack as a value: its settings, its boards, what waits on the wire, the lead's part and the last result.
-use mathlib.Core.Bool.{Bool, false, cond}
+use mathlib.Core.Bool.{Bool, false}
 use mathlib.Core.List.{List, []}
 use Prim.Native.Nat.{ℕ}
 use Rattle.theory.specs.declared.memory.Cell.{Cell}

@@ -32,6 +32,17 @@ pub struct Entry {
     pub owing: u32,
 }
 
+impl Entry {
+    pub const FREE: Entry = Entry {
+        size: 0,
+        place: 0,
+        marked: false,
+        parent: Parent::Root { board: 0 },
+        gone: 0,
+        owing: 0,
+    };
+}
+
 // Where a board stands in a collection.
 #[derive(Clone, Copy, PartialEq, Eq, Debug)]
 pub enum Mode {

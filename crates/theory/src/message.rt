@@ -3,6 +3,7 @@ use crate::memory::Cell;
 use crate::memory::Outcome;
 use crate::memory::Parent;
 use crate::memory::Ref;
+use crate::state::Figures;
 
 // A remote read or write of a board's memory, or the answer to one.
 #[derive(Clone, Copy)]
@@ -31,15 +32,6 @@ pub enum Operation {
     },
 }
 
-// What a board reports of its sweep: the tally of its kept records, the marking messages that it
-// took, and the cells that it freed.
-#[derive(Clone, Copy)]
-pub struct Report {
-    pub word: u64,
-    pub messages: u64,
-    pub freed: u64,
-}
-
 #[derive(Clone, Copy)]
 pub enum Message {
     Operation(Operation),
@@ -48,7 +40,7 @@ pub enum Message {
     Shove,
     End,
     Sweep,
-    Swept(Report),
+    Swept(Figures),
     Mark { target: Ref, parent: Parent },
     Reply { parent: Parent },
 }
@@ -58,4 +50,14 @@ pub enum Message {
 pub struct Held {
     pub from: u32,
     pub operation: Operation,
+}
+
+impl Held {
+    // What a place holds before anything was held there.
+    pub const BLANK: Held = Held {
+        from: 0,
+        operation: Operation::Ack {
+            outcome: Outcome::Done,
+        },
+    };
 }

@@ -19,7 +19,8 @@ pub struct Round {
     pub taken: u64,
 }
 
-// The figures of a collection: the tally of the kept records, the marking messages, the cells freed.
+// The figures of a collection, or of one board's sweep: the tally of the kept records, the marking
+// messages taken, the cells freed.
 #[derive(Clone, Copy, PartialEq, Eq, Debug)]
 pub struct Figures {
     pub kept: u64,
@@ -35,4 +36,32 @@ pub struct Lead {
     pub awaited: u32,
     pub wish: bool,
     pub figures: Figures,
+}
+
+impl Figures {
+    pub const NONE: Figures = Figures {
+        kept: 0,
+        messages: 0,
+        freed: 0,
+    };
+}
+
+impl Lead {
+    pub const NONE: Lead = Lead {
+        closing: false,
+        awaited: 0,
+        wish: false,
+        figures: Figures::NONE,
+    };
+}
+
+impl Round {
+    pub const NONE: Round = Round {
+        sent: 0,
+        answered: 0,
+        started: false,
+        shoves: 0,
+        ends: 0,
+        taken: 0,
+    };
 }

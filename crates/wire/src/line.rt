@@ -12,6 +12,15 @@ pub struct Letter {
     pub message: Message,
 }
 
+impl Letter {
+    // What a place holds before anything was sent.
+    pub const BLANK: Letter = Letter {
+        from: 0,
+        to: 0,
+        message: Message::Want,
+    };
+}
+
 #[derive(Drop)]
 pub struct Line<'a> {
     letters: &'a mut [Letter],

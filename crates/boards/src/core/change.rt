@@ -10,7 +10,6 @@ ghost use Rattle.boards.specs.Models.{model, Changed, Sound};
 use super::Core;
 use crate::flat::store_in;
 use crate::flat::wipe_in;
-use crate::registers::NO_ENTRY;
 use theory::memory::Cell;
 use theory::memory::Entry;
 use theory::memory::Ref;
@@ -63,7 +62,8 @@ impl<W: Wire> Core<'_, W> {
         let _ = self.free.pop(b as usize);
     }
 
-    // A record of so many cells from the top up, described by the first free entry, which the slot refers to.
+    // A record of so many cells from the top up, described by an entry, which the slot refers to. The first
+    // free entry leaves its queue: the caller names that one.
     pub fn place_record(&mut self, b: u32, slot: u32, entry: u16, size: u32, place: u32)
         requires sound { ⌜ Sound (now self) ⌝ }
         requires board { ⌜ b < now self .settings .boards ⌝ }
@@ -80,7 +80,7 @@ impl<W: Wire> Core<'_, W> {
             Entry {
                 size,
                 place,
-                ..NO_ENTRY
+                ..Entry::FREE
             },
         );
         self.put_top(b, place + size);

@@ -10,7 +10,6 @@ ghost use Rattle.theory.specs.State.{no-entry};
 ghost use Rattle.boards.specs.Models.{model, Sound};
 use super::Core;
 use crate::flat::read_in;
-use crate::registers::NO_ENTRY;
 use theory::memory::Cell;
 use theory::memory::Entry;
 use theory::memory::Mode;
@@ -100,7 +99,7 @@ impl<W: Wire> Core<'_, W> {
         ensures { λ r. ⌜ r ≡ getD (model width capacity waiting (now (self .entry)) .boards b .entries) entry no-entry ⌝ }
     {
         if entry >= self.settings.entries {
-            return NO_ENTRY;
+            return Entry::FREE;
         }
         read_in(self.entries, self.settings.entries, b, entry)
     }

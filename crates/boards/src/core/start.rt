@@ -6,12 +6,12 @@ ghost use Rattle.boards.specs.Models.{model, brought, Enough, InRange, Sound};
 use super::Core;
 use crate::flat::fill;
 use crate::numbering::number_all;
-use crate::registers::NO_ENTRY;
-use crate::registers::NO_FIGURES;
-use crate::registers::NO_LEAD;
 use crate::registers::fresh_registers;
 use theory::fault::PackFault;
 use theory::memory::Cell;
+use theory::memory::Entry;
+use theory::state::Figures;
+use theory::state::Lead;
 use theory::state::Settings;
 use wire::wire::Wire;
 
@@ -97,12 +97,12 @@ impl<W: Wire> Core<'_, W> {
         ensures brought { λ _. ⌜ brought (now (self .exit)) ≡ brought (now (self .entry)) ⌝ }
     {
         fill(self.cells, Cell::Value(0));
-        fill(self.entries, NO_ENTRY);
+        fill(self.entries, Entry::FREE);
         number_all(&mut self.free, t.boards as usize, t.entries as u16);
         let _ = self.held.lay_out(t.boards as usize, t.boards as usize);
         self.registers = fresh_registers(t.credit, t.credit * t.boards);
         self.settings = t;
-        self.lead = NO_LEAD;
-        self.result = NO_FIGURES;
+        self.lead = Lead::NONE;
+        self.result = Figures::NONE;
     }
 }

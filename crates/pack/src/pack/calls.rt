@@ -5,11 +5,12 @@ ghost use Rattle.theory.specs.Make.{make};
 ghost use Rattle.theory.specs.SetSlot.{set-slot};
 ghost use Rattle.pack.specs.Shown.{state, memory};
 use super::Pack;
+use tally::Tally;
 use theory::fault::PackFault;
 use theory::memory::Cell;
 use wire::wire::Wire;
 
-impl<W: Wire, T> Pack<'_, W, T> {
+impl<W: Wire, T: Tally> Pack<'_, W, T> {
     // A new record of so many cells, all the value 0, which the slot refers to.
     pub fn make(&mut self, board: u32, slot: u32, size: u32) -> Result<(), PackFault>
         ensures does_its_step { λ r. ⌜ (state width capacity waiting (now (self .exit)), r) ≡ make board slot size (state width capacity waiting (now (self .entry))) ⌝ }

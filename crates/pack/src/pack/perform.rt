@@ -4,11 +4,12 @@ ghost use Rattle.std.specs.Results.{Cases};
 ghost use Rattle.theory.specs.Calls.{step};
 ghost use Rattle.pack.specs.Shown.{state, memory};
 use super::Pack;
+use tally::Tally;
 use theory::call::Call;
 use theory::fault::PackFault;
 use wire::wire::Wire;
 
-impl<W: Wire, T> Pack<'_, W, T> {
+impl<W: Wire, T: Tally> Pack<'_, W, T> {
     // Performs a call, and answers how many deliveries it made.
     pub fn perform(&mut self, call: Call) -> Result<u32, PackFault>
         ensures does_its_step { λ r. ⌜ (state width capacity waiting (now (self .exit)), r) ≡ step call (state width capacity waiting (now (self .entry))) ⌝ }

@@ -1,9 +1,10 @@
-// What a planner can see of a pack. Where no such board, slot, cell or entry is, there is none.
+// What can be seen of a pack. Where there is no such board, slot, cell or entry, there is nothing.
 ghost use mathlib.Core.Path.{_≡_};
 ghost use Rattle.theory.specs.declared.memory.Cell.the-variants.{Value};
 ghost use Rattle.theory.specs.State.{no-entry};
 ghost use Rattle.pack.specs.Shown.{state, of-board, item, free-item};
 use super::Pack;
+use tally::Tally;
 use theory::memory::Cell;
 use theory::memory::Entry;
 use theory::memory::Mode;
@@ -11,7 +12,7 @@ use theory::memory::Outcome;
 use theory::state::Figures;
 use wire::wire::Wire;
 
-impl<W: Wire, T> Pack<'_, W, T> {
+impl<W: Wire, T: Tally> Pack<'_, W, T> {
     // The figures of the last collection, or zeros.
     pub fn result(&self) -> Figures
         ensures { λ r. ⌜ r ≡ state width capacity waiting (now (self .entry)) .result ⌝ }

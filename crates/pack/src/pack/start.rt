@@ -8,18 +8,20 @@ use super::Pack;
 use crate::memory::Memory;
 use boards::core::Core;
 use boards::core::start::check_ranges;
-use boards::registers::NO_FIGURES;
-use boards::registers::NO_LEAD;
 use boards::registers::fresh_registers;
 use queue::queues::Queues;
+use tally::Tally;
 use theory::fault::PackFault;
+use theory::state::Figures;
+use theory::state::Lead;
 use theory::state::Settings;
 use wire::wire::Wire;
 
-impl<'a, W: Wire, T> Pack<'a, W, T> {
+impl<'a, W: Wire, T: Tally> Pack<'a, W, T> {
     // No board yet: every call is refused until set_up.
     pub fn over(brought: Memory<'a>, wire: W, tally: T) -> Pack<'a, W, T>
         ensures state { λ r. ⌜ state width capacity waiting r ≡ blank (width wire) (capacity wire) (waiting wire) ⌝ }
+        ensures holds_what_it_was_given { λ r. ⌜ (now (r .core .cells) ≡ now (brought .entry .cells)) × (now (r .core .entries) ≡ now (brought .entry .entries)) × (r .core .wire ≡ wire) × (r .tally ≡ tally) ⌝ }
         ensures memory { λ r. ⌜ memory r ≡ record { cells = length (now (brought .entry .cells)); entries = length (now (brought .entry .entries)); free = length (now (brought .entry .free)); held = length (now (brought .entry .held)) } ⌝ }
     {
         let Memory {
@@ -41,8 +43,8 @@ impl<'a, W: Wire, T> Pack<'a, W, T> {
                     entries: 0,
                     credit: 0,
                 },
-                lead: NO_LEAD,
-                result: NO_FIGURES,
+                lead: Lead::NONE,
+                result: Figures::NONE,
                 wire,
             },
             tally,

@@ -15,7 +15,8 @@ returns-in-rest g c =
     record {
       does-its-step = sym (make-no-entry (a .board) (a .slot) (a .size) (state (w .width) (w .capacity) (w .waiting) (a .self .now)) (omega arith) (omega arith) (omega arith) (omega arith)
           (sym (c .collecting .ensures) ∙ c .if-collecting .left) (sym (c .waits .ensures) ∙ c .if-waits .left) (sym (c .first-free .ensures) ∙ c .in-rest .is));
-      keeps-its-memory = refl; refused-leaves-all-as-it-was = refl;
+      keeps-its-memory = refl;
+      refused-leaves-all-as-it-was = refl;
     }
 
 pub returns-then-saturating-sub-size : need.returns-then-saturating-sub-size
@@ -26,5 +27,6 @@ returns-then-saturating-sub-size g c =
       does-its-step = sym (make-no-room (a .board) (a .slot) (a .size) (state (w .width) (w .capacity) (w .waiting) (a .self .now)) (omega arith) (omega arith) (omega arith) (omega arith)
           (sym (c .collecting .ensures) ∙ c .if-collecting .left) (sym (c .waits .ensures) ∙ c .if-waits .left) (c .in-Some .entry)
           (sym (c .first-free .ensures) ∙ c .in-Some .is) (omega (arith, c .top-place .ensures, c .saturating-sub .ensures, c .if-saturating-sub-size .taken)));
-      keeps-its-memory = refl; refused-leaves-all-as-it-was = refl;
+      keeps-its-memory = refl;
+      refused-leaves-all-as-it-was = refl;
     }

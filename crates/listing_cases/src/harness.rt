@@ -2,7 +2,6 @@
 ghost use Prim.Native.Nat.{_≤_};
 ghost use Rattle.std.specs.Of.Vec.{vec-len};
 ghost use Rattle.std.specs.Results.{Cases};
-use boards::registers::NO_ENTRY;
 use listing::fault::Refusal;
 use listing::list::LEAST_PLACE;
 use listing::list::list;
@@ -11,35 +10,24 @@ use pack::pack::Pack;
 use std::alloc::AllocError;
 use std::alloc::Global;
 use tally::OldestWeek;
+use tally::OldestWeekTally;
 use theory::memory::Cell;
-use theory::memory::Outcome;
+use theory::memory::Entry;
 use theory::message::Held;
-use theory::message::Message;
-use theory::message::Operation;
 use wire::line::Letter;
 use wire::line::Line;
 use wire::line::wire::LineWire;
 
-const NOTHING_HELD: Held = Held {
-    from: 0,
-    operation: Operation::Ack {
-        outcome: Outcome::Done,
-    },
-};
-
-const NO_LETTER: Letter = Letter {
-    from: 0,
-    to: 0,
-    message: Message::Want,
-};
-
 // The bytes of the listing, or the number of the refusal.
-pub(crate) fn listing_of(heap: Global, input: &[u8]) -> Result<Result<Vec<u8>, Refusal>, AllocError> {
+pub(crate) fn listing_of(
+    heap: Global,
+    input: &[u8],
+) -> Result<Result<Vec<u8>, Refusal>, AllocError> {
     let mut cells = vec![in heap; Cell::Value(0); 4096]?;
-    let mut entries = vec![in heap; NO_ENTRY; 512]?;
+    let mut entries = vec![in heap; Entry::FREE; 512]?;
     let mut free = vec![in heap; 0; 512]?;
-    let mut held = vec![in heap; NOTHING_HELD; 256]?;
-    let mut letters = vec![in heap; NO_LETTER; 1325]?;
+    let mut held = vec![in heap; Held::BLANK; 256]?;
+    let mut letters = vec![in heap; Letter::BLANK; 1325]?;
     let mut place = vec![in heap; 0; LEAST_PLACE]?;
     let mut line = Line::over(&mut letters);
     let _ = line.open(16);
