@@ -1,5 +1,5 @@
 -- A core's boards, and its changes of one board.
-use mathlib.Core.Path.{_≡_, refl, sym, ap, _∙_}
+use mathlib.Core.Path.{_≡_, refl, sym, ap, subst, _∙_}
 use mathlib.Core.List.{List}
 use Prim.Native.Nat.{ℕ, _<_, _≤_, _+_, _*_}
 use native.Mathlib.Omega.{arith}
@@ -17,7 +17,7 @@ use Rattle.theory.proofs.Parts.{ends-within, length-parts}
 use Rattle.theory.proofs.States.{change-change}
 use Rattle.boards.specs.declared.core.Core.{Core}
 use Rattle.boards.specs.declared.registers.Registers.{Registers}
-use Rattle.boards.specs.Models.{look, looks, registers-of, no-registers, cells-of, entries-of, free-of, held-of, brought, model, Sound, Changed}
+use Rattle.boards.specs.Models.{Shows, look, looks, registers-of, no-registers, cells-of, entries-of, free-of, held-of, brought, model, Sound, Changed}
 use Rattle.boards.proofs.Boards.{board-in, registers-changed}
 
 -- two changes of one board, one after the other
@@ -51,14 +51,11 @@ module _ {W : Type 0} (width capacity : W → ℕ) (waiting : W → Net) (p : Co
       (registers-of (p .registers)) (cells-of p) (entries-of p) (free-of p) (held-of p)
 
   -- a read of the registers, at whatever default
-  pub register-read : {A : Type 0} (f : Board → A) (h : Registers → A) (d : Registers) → Sound p
-      → ((r : Registers) (cs : List Cell) (es : List Entry) (fs : List ℕ) (hs : List Held) → f (look r cs es fs hs) ≡ h r)
-      → h (getD (p .registers) b d) ≡ f (model width capacity waiting p .boards b)
-  register-read f h d s same =
+  pub registers-shown : (d : Registers) → Sound p → Shows (getD (p .registers) b d) (model width capacity waiting p .boards b)
+  registers-shown d s =
       let w : b < length (p .registers) = omega (arith, s .sized .0, s .ranged .0) in
-      ap h (getD-default (p .registers) b d no-registers w)
-      ∙ sym (same (registers-of (p .registers) b) (cells-of p b) (entries-of p b) (free-of p b) (held-of p b))
-      ∙ ap f (sym board-is)
+      subst (Shows (getD (p .registers) b d)) (sym board-is)
+      (ap (λ r. look r (cells-of p b) (entries-of p b) (free-of p b) (held-of p b)) (getD-default (p .registers) b d no-registers w))
 
   -- the part of board b ends within the lent slice
   pub cells-end : Sound p → b * p .settings .cells + p .settings .cells ≤ length (now (p .cells))

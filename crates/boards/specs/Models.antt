@@ -44,6 +44,10 @@ look r cs es fs hs = record {
   round = r .round;
 }
 
+-- the registers are those of the board
+abbrev pub Shows : Registers → Board → Type 0
+Shows r x = look r (x .cells) (x .entries) (x .free) (x .held) ≡ x
+
 -- every board by the registers and the parts
 abbrev pub looks : (ℕ → Registers) → (ℕ → List Cell) → (ℕ → List Entry) → (ℕ → List ℕ) → (ℕ → List Held) → ℕ → Board
 looks r cs es fs hs b = look (r b) (cs b) (es b) (fs b) (hs b)

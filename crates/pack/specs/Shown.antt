@@ -21,10 +21,6 @@ module _ {W T : Type 0} (width capacity : W → ℕ) (waiting : W → Net) where
   abbrev pub state : Pack W T → State
   state p = model width capacity waiting (p .core)
 
--- something of a board of the pack
-abbrev pub of-board : {A : Type 0} → (Board → A) → ℕ → State → Option A
-of-board f b s = cond (ltb b (s .settings .boards)) (Some (f (s .boards b))) None
-
 -- an item of a board's list, of which there are `most`
 abbrev pub item : {A : Type 0} → (Board → List A) → ℕ → A → ℕ → ℕ → State → Option A
 item f most d b i s = cond (ltb b (s .settings .boards)) (cond (ltb i most) (Some (getD (f (s .boards b)) i d)) None) None

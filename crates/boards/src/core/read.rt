@@ -7,23 +7,23 @@ ghost use Rattle.theory.specs.declared.memory.Cell.the-variants.{Value};
 ghost use Rattle.theory.specs.Answer.{collecting};
 ghost use Rattle.theory.specs.Lists.{head};
 ghost use Rattle.theory.specs.State.{no-entry};
-ghost use Rattle.boards.specs.Models.{model, Sound};
+ghost use Rattle.boards.specs.Models.{model, Shows, Sound};
 use super::Core;
 use crate::flat::read_in;
+use crate::registers::Registers;
 use theory::memory::Cell;
 use theory::memory::Entry;
 use theory::memory::Mode;
-use theory::memory::Outcome;
 use wire::wire::Wire;
 
 impl<W: Wire> Core<'_, W> {
-    pub fn slot(&self, b: u32, slot: u32) -> Cell
+    // All that the board keeps beside its memory.
+    pub fn registers(&self, b: u32) -> Registers
         requires sound { ⌜ Sound (now self) ⌝ }
         requires board { ⌜ b < now self .settings .boards ⌝ }
-        requires slot { ⌜ slot < 8 ⌝ }
-        ensures { λ r. ⌜ r ≡ getD (model width capacity waiting (now (self .entry)) .boards b .slots) slot (Value 0) ⌝ }
+        ensures { λ r. ⌜ Shows r (model width capacity waiting (now (self .entry)) .boards b) ⌝ }
     {
-        self.registers[b as usize].slots[slot as usize]
+        self.registers[b as usize]
     }
 
     pub fn top(&self, b: u32) -> u32
@@ -31,7 +31,7 @@ impl<W: Wire> Core<'_, W> {
         requires board { ⌜ b < now self .settings .boards ⌝ }
         ensures { λ r. ⌜ r ≡ model width capacity waiting (now (self .entry)) .boards b .top ⌝ }
     {
-        self.registers[b as usize].top
+        self.registers(b).top
     }
 
     pub fn waits(&self, b: u32) -> bool
@@ -39,15 +39,7 @@ impl<W: Wire> Core<'_, W> {
         requires board { ⌜ b < now self .settings .boards ⌝ }
         ensures { λ r. ⌜ r ≡ model width capacity waiting (now (self .entry)) .boards b .waits ⌝ }
     {
-        self.registers[b as usize].waits
-    }
-
-    pub fn outcome(&self, b: u32) -> Outcome
-        requires sound { ⌜ Sound (now self) ⌝ }
-        requires board { ⌜ b < now self .settings .boards ⌝ }
-        ensures { λ r. ⌜ r ≡ model width capacity waiting (now (self .entry)) .boards b .outcome ⌝ }
-    {
-        self.registers[b as usize].outcome
+        self.registers(b).waits
     }
 
     pub fn mode(&self, b: u32) -> Mode
@@ -55,7 +47,7 @@ impl<W: Wire> Core<'_, W> {
         requires board { ⌜ b < now self .settings .boards ⌝ }
         ensures { λ r. ⌜ r ≡ model width capacity waiting (now (self .entry)) .boards b .mode ⌝ }
     {
-        self.registers[b as usize].mode
+        self.registers(b).mode
     }
 
     // Whether the board is in a collection.
@@ -69,15 +61,6 @@ impl<W: Wire> Core<'_, W> {
             Mode::Mark => true,
             Mode::Done => true,
         }
-    }
-
-    // The credit that is left.
-    pub fn credit(&self, b: u32) -> u32
-        requires sound { ⌜ Sound (now self) ⌝ }
-        requires board { ⌜ b < now self .settings .boards ⌝ }
-        ensures { λ r. ⌜ r ≡ model width capacity waiting (now (self .entry)) .boards b .purse .have ⌝ }
-    {
-        self.registers[b as usize].purse.have()
     }
 
     // A cell of the board's own part; past its end there is none, and a value 0 is read.

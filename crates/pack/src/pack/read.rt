@@ -1,14 +1,16 @@
 // What can be seen of a pack. Where there is no such board, slot, cell or entry, there is nothing.
 ghost use mathlib.Core.Path.{_≡_};
+ghost use Prim.Native.Nat.{_<_, _≤_};
+ghost use Rattle.std.specs.Options.{Cases as BySome};
 ghost use Rattle.theory.specs.declared.memory.Cell.the-variants.{Value};
 ghost use Rattle.theory.specs.State.{no-entry};
-ghost use Rattle.pack.specs.Shown.{state, of-board, item, free-item};
+ghost use Rattle.boards.specs.Models.{Shows};
+ghost use Rattle.pack.specs.Shown.{state, item, free-item};
 use super::Pack;
+use boards::registers::Registers;
 use tally::Tally;
 use theory::memory::Cell;
 use theory::memory::Entry;
-use theory::memory::Mode;
-use theory::memory::Outcome;
 use theory::state::Figures;
 use wire::wire::Wire;
 
@@ -20,65 +22,16 @@ impl<W: Wire, T: Tally> Pack<'_, W, T> {
         self.core.result
     }
 
-    // How many of the board's cells are in use.
-    pub fn top(&self, board: u32) -> Option<u32>
-        ensures { λ r. ⌜ r ≡ of-board (λ x. x .top) board (state width capacity waiting (now (self .entry))) ⌝ }
+    // All that a board keeps beside its cells, entries and queues: its slots, top, mode, outcome, purse and
+    // counts, and whether it waits.
+    pub fn board(&self, board: u32) -> Option<Registers>
+        ensures { λ r. ⌜ BySome r (state width capacity waiting (now (self .entry)) .settings .boards ≤ board)
+            (λ x. (board < state width capacity waiting (now (self .entry)) .settings .boards) × Shows x (state width capacity waiting (now (self .entry)) .boards board)) ⌝ }
     {
         if board >= self.core.settings.boards {
             return None;
         }
-        Some(self.core.top(board))
-    }
-
-    pub fn mode(&self, board: u32) -> Option<Mode>
-        ensures { λ r. ⌜ r ≡ of-board (λ x. x .mode) board (state width capacity waiting (now (self .entry))) ⌝ }
-    {
-        if board >= self.core.settings.boards {
-            return None;
-        }
-        Some(self.core.mode(board))
-    }
-
-    // Whether the board waits for the end of a remote operation.
-    pub fn waits(&self, board: u32) -> Option<bool>
-        ensures { λ r. ⌜ r ≡ of-board (λ x. x .waits) board (state width capacity waiting (now (self .entry))) ⌝ }
-    {
-        if board >= self.core.settings.boards {
-            return None;
-        }
-        Some(self.core.waits(board))
-    }
-
-    // How the board's last remote operation ended.
-    pub fn outcome(&self, board: u32) -> Option<Outcome>
-        ensures { λ r. ⌜ r ≡ of-board (λ x. x .outcome) board (state width capacity waiting (now (self .entry))) ⌝ }
-    {
-        if board >= self.core.settings.boards {
-            return None;
-        }
-        Some(self.core.outcome(board))
-    }
-
-    // The credit that the board has left.
-    pub fn credit(&self, board: u32) -> Option<u32>
-        ensures { λ r. ⌜ r ≡ of-board (λ x. x .purse .have) board (state width capacity waiting (now (self .entry))) ⌝ }
-    {
-        if board >= self.core.settings.boards {
-            return None;
-        }
-        Some(self.core.credit(board))
-    }
-
-    pub fn slot(&self, board: u32, slot: u32) -> Option<Cell>
-        ensures { λ r. ⌜ r ≡ item (λ x. x .slots) 8 (Value 0) board slot (state width capacity waiting (now (self .entry))) ⌝ }
-    {
-        if board >= self.core.settings.boards {
-            return None;
-        }
-        if slot > 7 {
-            return None;
-        }
-        Some(self.core.slot(board, slot))
+        Some(self.core.registers(board))
     }
 
     pub fn cell(&self, board: u32, at: u32) -> Option<Cell>

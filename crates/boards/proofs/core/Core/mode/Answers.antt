@@ -1,8 +1,6 @@
-use mathlib.Core.Path.{refl}
-use Rattle.boards.proofs.Cores.{register-read}
+use mathlib.Core.Path.{ap}
+use Rattle.theory.specs.State.{Board}
 use Rattle.boards.proofs.core.Core.mode.Needs as need
 
 pub returns : need.returns
-returns g c =
-    let w = g .W·Wire in
-    register-read (w .width) (w .capacity) (w .waiting) (c .args .self .now) (c .args .b) (c .pre .board) (λ x. x .mode) (λ r. r .mode) (c .index-self-b .result) (c .pre .sound) (λ _ _ _ _ _. refl)
+returns g c = ap (λ (x : Board). x .mode) (c .registers .ensures)
