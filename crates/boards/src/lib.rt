@@ -1,4 +1,6 @@
 // The boards of a pack over lent memory: what each holds, and its elementary changes.
+#![tactic(auto)]
+
 pub mod core;
 mod flat;
 mod numbering;

@@ -1,6 +1,8 @@
 // A wire over one lent table whose places are linked: a chain of places for each ordered pair of
 // boards, and one for the free places. What a send or a take costs does not depend on how many
 // messages wait.
+#![tactic(auto)]
+
 ghost use Rattle.std.specs.Prelude.{◌≡◌, ◌≤◌, length};
 ghost use Rattle.chains.specs.Tables.{Apart, Within, Ends, Counted, Summed};
 

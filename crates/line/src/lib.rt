@@ -1,4 +1,6 @@
 // A wire over one lent slice: all letters in the order of sending, whatever their pair.
+#![tactic(auto)]
+
 ghost use Rattle.std.specs.Prelude.{◌≡◌, ◌≤◌, true};
 ghost use Rattle.line.specs.Letters.{joins};
 ghost use Rattle.line.specs.Kept.{Fits, kept};

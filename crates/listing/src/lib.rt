@@ -1,4 +1,6 @@
 // A file of calls, and its listing.
+#![tactic(auto)]
+
 mod expect;
 pub mod fault;
 pub mod list;

@@ -1,4 +1,6 @@
 // packrun: reads a file of calls on standard input and prints its listing.
+#![tactic(auto)]
+
 ghost use Rattle.std.specs.Prelude.{◌≤◌, length, IfOk};
 
 use listing::list::{LEAST_PLACE, MOST_INPUT, list};

@@ -1,4 +1,6 @@
 // Credit: what is there, and the most that there can be.
+#![tactic(auto)]
+
 ghost use Rattle.std.specs.Prelude.{◌≡◌, ◌+◌, ◌-◌, ◌<◌, ◌≤◌, min, if◌then◌else◌, Ok, Err, nat_lt};
 
 // The refusal to spend more than there is.

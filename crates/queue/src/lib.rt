@@ -1,4 +1,6 @@
 // First in, first out, over places that the caller lends.
+#![tactic(auto)]
+
 pub mod queue;
 pub mod queues;
 pub mod ring;

@@ -1,4 +1,6 @@
 // What a collection counts of the records that it keeps: a word for each record, joined in any order.
+#![tactic(auto)]
+
 ghost use Rattle.std.specs.Prelude.{◌≡◌, ℕ, ◌+◌, ◌%◌, ◌^◌, ◌<◌, min, List, fold};
 ghost use mathlib.Core.List.{Permᴰ};
 ghost use Rattle.theory.specs.declared.memory.Cell.{Cell};

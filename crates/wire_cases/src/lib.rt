@@ -1,4 +1,6 @@
 // Wires by the rules, wires driven alike, and messages moved from one wire to another.
+#![tactic(auto)]
+
 #[cfg(test)]
 mod draws;
 #[cfg(test)]

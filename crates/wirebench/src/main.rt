@@ -1,4 +1,6 @@
 // wirebench TURNS: how many messages a second go through each wire while 1, 100 and 1,325 wait on it.
+#![tactic(auto)]
+
 use anyhow::anyhow;
 use chains::{Chains, Link};
 use line::{Letter, Line};

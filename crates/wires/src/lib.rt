@@ -1,5 +1,7 @@
 // What a wire means, to all that is built on one: how many boards it joins, how many messages it can
 // hold, and for each ordered pair of boards, equal ones too, the messages that wait, in order.
+#![tactic(auto)]
+
 ghost use Rattle.std.specs.Prelude.{◌≡◌, length, OnErr};
 ghost use Rattle.theory.specs.Wire.{WireState, Proper, load, send, take};
 
