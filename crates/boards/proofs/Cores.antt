@@ -10,7 +10,7 @@ use Rattle.theory.specs.State.{Board, with_boards, change}
 use Rattle.theory.proofs.Functions.{set-put}
 use Rattle.theory.proofs.Parts.{ends_within, length-parts}
 use Rattle.theory.proofs.States.{change-change}
-use Rattle.boards.specs.declared.core.Core.{Core}
+use Rattle.boards.specs.declared.inner.Core.{Core}
 use Rattle.boards.specs.declared.registers.Registers.{Registers}
 use Rattle.boards.specs.Models.{Shows, look, looks, registers_of, no_registers, cells_of, entries_of, free_of, held_of, brought, model, Sound, Changed}
 use Rattle.boards.proofs.Boards.{board_in, registers_changed}

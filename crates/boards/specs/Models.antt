@@ -16,7 +16,7 @@ use Rattle.theory.specs.Lists.{parts}
 use Rattle.theory.specs.Net.{Net}
 use Rattle.theory.specs.SetUp.{Brought}
 use Rattle.theory.specs.State.{State, Board, no_board, no_round, change}
-use Rattle.boards.specs.declared.core.Core.{Core}
+use Rattle.boards.specs.declared.inner.Core.{Core}
 use Rattle.boards.specs.declared.registers.Registers.{Registers}
 
 -- what a read past the sixteen gives

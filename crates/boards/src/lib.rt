@@ -1,7 +1,7 @@
 // The boards of a pack over lent memory: what each holds, and its elementary changes.
 #![tactic(auto)]
 
-pub mod core;
 mod flat;
+pub mod inner;
 mod numbering;
 pub mod registers;

@@ -1,6 +1,6 @@
 ghost use Rattle.boards.specs.Models.{Ranged, Sized, Laid};
 
-use boards::core::Core;
+use boards::inner::Core;
 
 mod calls;
 mod perform;

@@ -124,8 +124,8 @@ impl Tally for OldestWeek {
 
 // All words joined, which their order does not change.
 pub fn total<T: Tally>(words: &[u64]) -> u64
-    ensures fold { result ≡ fold joined start words.now }
-    ensures order { (others : List ℕ) → Permᴰ words.now others → result ≡ fold joined start others }
+    ensures fold { result ≡ fold T.joined T.start words.now }
+    ensures order { (others : List ℕ) → Permᴰ words.now others → result ≡ fold T.joined T.start others }
 {
     let mut sum = T::first();
     for word in words {

@@ -13,7 +13,7 @@ use wire::wire::Wire;
 impl<W: Wire, T: Tally> Pack<'_, W, T> {
     // A new record of so many cells, all the value 0, which the slot refers to.
     pub fn make(&mut self, board: u32, slot: u32, size: u32) -> Result<(), PackFault>
-        ensures does_its_step { (state width capacity waiting self.new, result) ≡ make board slot size (state width capacity waiting self.old) }
+        ensures does_its_step { (state W.width W.capacity W.waiting self.new, result) ≡ make board slot size (state W.width W.capacity W.waiting self.old) }
         ensures keeps_its_memory { memory self.new ≡ memory self.old }
         ensures refused_leaves_all_as_it_was { OnErr result (self.new ≡ self.old) }
     {
@@ -48,7 +48,7 @@ impl<W: Wire, T: Tally> Pack<'_, W, T> {
 
     // The slot becomes a value.
     pub fn set(&mut self, board: u32, slot: u32, number: u32) -> Result<(), PackFault>
-        ensures does_its_step { (state width capacity waiting self.new, result) ≡ set_slot board slot number (state width capacity waiting self.old) }
+        ensures does_its_step { (state W.width W.capacity W.waiting self.new, result) ≡ set_slot board slot number (state W.width W.capacity W.waiting self.old) }
         ensures keeps_its_memory { memory self.new ≡ memory self.old }
         ensures refused_leaves_all_as_it_was { OnErr result (self.new ≡ self.old) }
     {

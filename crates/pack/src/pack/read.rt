@@ -15,7 +15,7 @@ use wire::wire::Wire;
 impl<W: Wire, T: Tally> Pack<'_, W, T> {
     // The figures of the last collection, or zeros.
     pub fn result(&self) -> Figures
-        ensures { result ≡ (state width capacity waiting self.now).result }
+        ensures { result ≡ (state W.width W.capacity W.waiting self.now).result }
     {
         self.core.result
     }
@@ -23,8 +23,8 @@ impl<W: Wire, T: Tally> Pack<'_, W, T> {
     // All that a board keeps beside its cells, entries and queues: its slots, top, mode, outcome, purse and
     // counts, and whether it waits.
     pub fn board(&self, board: u32) -> Option<Registers>
-        ensures { MatchOption result ((state width capacity waiting self.now).settings.boards ≤ board)
-            (λ x. (board < (state width capacity waiting self.now).settings.boards) × Shows x ((state width capacity waiting self.now).boards board)) }
+        ensures { MatchOption result ((state W.width W.capacity W.waiting self.now).settings.boards ≤ board)
+            (λ x. (board < (state W.width W.capacity W.waiting self.now).settings.boards) × Shows x ((state W.width W.capacity W.waiting self.now).boards board)) }
     {
         if board >= self.core.settings.boards {
             return None;
@@ -33,7 +33,7 @@ impl<W: Wire, T: Tally> Pack<'_, W, T> {
     }
 
     pub fn cell(&self, board: u32, at: u32) -> Option<Cell>
-        ensures { result ≡ item (λ x. x.cells) (state width capacity waiting self.now).settings.cells (Value 0) board at (state width capacity waiting self.now) }
+        ensures { result ≡ item (λ x. x.cells) (state W.width W.capacity W.waiting self.now).settings.cells (Value 0) board at (state W.width W.capacity W.waiting self.now) }
     {
         if board >= self.core.settings.boards {
             return None;
@@ -45,7 +45,7 @@ impl<W: Wire, T: Tally> Pack<'_, W, T> {
     }
 
     pub fn entry(&self, board: u32, entry: u32) -> Option<Entry>
-        ensures { result ≡ item (λ x. x.entries) (state width capacity waiting self.now).settings.entries no_entry board entry (state width capacity waiting self.now) }
+        ensures { result ≡ item (λ x. x.entries) (state W.width W.capacity W.waiting self.now).settings.entries no_entry board entry (state W.width W.capacity W.waiting self.now) }
     {
         if board >= self.core.settings.boards {
             return None;
@@ -58,7 +58,7 @@ impl<W: Wire, T: Tally> Pack<'_, W, T> {
 
     // The number of a free entry, by its place in the queue of those.
     pub fn free(&self, board: u32, i: usize) -> Option<u16>
-        ensures { result ≡ free_item board i (state width capacity waiting self.now) }
+        ensures { result ≡ free_item board i (state W.width W.capacity W.waiting self.now) }
     {
         if board >= self.core.settings.boards {
             return None;

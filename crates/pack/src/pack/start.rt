@@ -5,8 +5,8 @@ ghost use Rattle.pack.specs.Shown.{state, memory};
 
 use super::Pack;
 use crate::memory::Memory;
-use boards::core::Core;
-use boards::core::start::check_ranges;
+use boards::inner::Core;
+use boards::inner::start::check_ranges;
 use boards::registers::fresh_registers;
 use queue::queues::Queues;
 use tally::Tally;
@@ -17,7 +17,7 @@ use wire::wire::Wire;
 impl<'a, W: Wire, T: Tally> Pack<'a, W, T> {
     // No board yet: every call is refused until set_up.
     pub fn over(brought: Memory<'a>, wire: W, tally: T) -> Pack<'a, W, T>
-        ensures state { state width capacity waiting result ≡ blank (width wire) (capacity wire) (waiting wire) }
+        ensures state { state W.width W.capacity W.waiting result ≡ blank (W.width wire) (W.capacity wire) (W.waiting wire) }
         ensures holds_what_it_was_given { (result.core.cells.now ≡ brought.entry.cells.now) × (result.core.entries.now ≡ brought.entry.entries.now) × (result.core.wire ≡ wire) × (result.tally ≡ tally) }
         ensures memory { memory result ≡ record { cells = length brought.entry.cells.now; entries = length brought.entry.entries.now; free = length brought.entry.free.now; held = length brought.entry.held.now } }
     {
@@ -50,7 +50,7 @@ impl<'a, W: Wire, T: Tally> Pack<'a, W, T> {
 
     // Sets the pack up with nothing in it, or refuses and leaves memory and wire as they were.
     pub fn set_up(&mut self, settings: Settings) -> Result<(), PackFault>
-        ensures does_its_step { (state width capacity waiting self.new, result) ≡ set_up (memory self.old) settings (state width capacity waiting self.old) }
+        ensures does_its_step { (state W.width W.capacity W.waiting self.new, result) ≡ set_up (memory self.old) settings (state W.width W.capacity W.waiting self.old) }
         ensures keeps_its_memory { memory self.new ≡ memory self.old }
         ensures refused_leaves_all_as_it_was { OnErr result (self.new ≡ self.old) }
     {
@@ -63,7 +63,7 @@ impl<'a, W: Wire, T: Tally> Pack<'a, W, T> {
 
     // What the pack was set up with, or zeros.
     pub fn settings(&self) -> Settings
-        ensures { result ≡ (state width capacity waiting self.now).settings }
+        ensures { result ≡ (state W.width W.capacity W.waiting self.now).settings }
     {
         self.core.settings
     }

@@ -12,14 +12,14 @@ pub loop-b-init : goal.loop-b-init
 loop-b-init c =
     let q = c.args.free.now in
     let fits : layout_fits c.args.count c.args.each (places_len q) ≡ true = and_from _ _ (le-leb _ _ c.requires.few) (le-leb _ _ c.requires.room) in (
-      c.lay-out.ensures.after ∙ ap (λ t. cond t (λ _. []) (queues q)) fits ∙ sym (masked_none [] (λ _. below c.args.each)),
-      c.lay-out.ensures.count ∙ ap (λ t. cond t c.args.count (count_of q)) fits,
-      c.lay-out.ensures.each ∙ ap (λ t. cond t c.args.each (each_of q)) fits,
+      c.lay_out.ensures.after ∙ ap (λ t. cond t (λ _. []) (queues q)) fits ∙ sym (masked_none [] (λ _. below c.args.each)),
+      c.lay_out.ensures.count ∙ ap (λ t. cond t c.args.count (count_of q)) fits,
+      c.lay_out.ensures.each ∙ ap (λ t. cond t c.args.each (each_of q)) fits,
       refl,
     )
 
-pub number-one-requires : goal.number-one-requires
-number-one-requires c =
+pub number_one-requires : goal.number_one-requires
+number_one-requires c =
     let inv = c.loop-b.invariant in
     let b = c.loop-b.b in
     record {
@@ -32,8 +32,8 @@ pub loop-b-preserved : goal.loop-b-preserved
 loop-b-preserved c =
     let inv = c.loop-b.invariant in
     let b = c.loop-b.b in (
-      c.number-one.ensures.after ∙ ap (λ f. put f b (below c.args.each)) inv.0 ∙ queues_more (below c.args.each) b,
-      c.number-one.ensures.count ∙ inv.1,
-      c.number-one.ensures.each ∙ inv.2,
-      c.number-one.ensures.places ∙ inv.3,
+      c.number_one.ensures.after ∙ ap (λ f. put f b (below c.args.each)) inv.0 ∙ queues_more (below c.args.each) b,
+      c.number_one.ensures.count ∙ inv.1,
+      c.number_one.ensures.each ∙ inv.2,
+      c.number_one.ensures.places ∙ inv.3,
     )

@@ -20,14 +20,14 @@ returns-then-b-lt48 c =
       | then-b-lt48-via-else-b-lt48+then-b-gt57 w ↦ numeral_other xs i c.loop-b-test.true (digit_high _ w.if-b-gt57.true)
     ])
 
-pub overflow-mul-n : goal.overflow-mul-n
-overflow-mul-n c =
-    let small : c.loop-b.n < 10 ^ 10 = read_small c.args.digits.now c.loop-b.b-index c.loop-b.n c.if-digits-gt-MOST-DIGITS.false c.loop-b.invariant in
+pub overflow_mul-n : goal.overflow_mul-n
+overflow_mul-n c =
+    let small : c.loop-b.n < 10 ^ 10 = read_small c.args.digits.now c.loop-b.b-index c.loop-b.n c.if-digits-gt-MOST_DIGITS.false c.loop-b.invariant in
     omega arith
 
-pub overflow-add-n : goal.overflow-add-n
-overflow-add-n c =
-    let small : c.loop-b.n < 10 ^ 10 = read_small c.args.digits.now c.loop-b.b-index c.loop-b.n c.if-digits-gt-MOST-DIGITS.false c.loop-b.invariant in
+pub overflow_add-n : goal.overflow_add-n
+overflow_add-n c =
+    let small : c.loop-b.n < 10 ^ 10 = read_small c.args.digits.now c.loop-b.b-index c.loop-b.n c.if-digits-gt-MOST_DIGITS.false c.loop-b.invariant in
     omega arith
 
 pub loop-b-preserved : goal.loop-b-preserved
@@ -41,4 +41,4 @@ returns-then-n c = sym (numeral_large c.args.digits.now c.loop-b.b-index c.loop-
 
 pub returns-else-n : goal.returns-else-n
 returns-else-n c =
-    sym (numeral_is c.args.digits.now c.loop-b.b-index c.loop-b.n c.loop-b-test.false c.loop-b.invariant (omega arith) c.if-digits-gt-MOST-DIGITS.false c.if-n.false)
+    sym (numeral_is c.args.digits.now c.loop-b.b-index c.loop-b.n c.loop-b-test.false c.loop-b.invariant (omega arith) c.if-digits-gt-MOST_DIGITS.false c.if-n.false)

@@ -8,23 +8,23 @@ loop-init g c =
     let t = g.B.Wire.means c.args.target.now in
     (left_none s c.args.from c.args.to, came_none s t c.args.from c.args.to)
 
-pub returns-in-err-message : goal.returns-in-err-message
-returns-in-err-message g c =
+pub returns-in_err-message : goal.returns-in_err-message
+returns-in_err-message g c =
     let s = g.A.Wire.means c.args.source.now in
     let t = g.B.Wire.means c.args.target.now in
     let l : c.loop.counter < length (s.waiting c.args.from c.args.to) = omega (arith, c.len-waiting.ensures, c.loop-test.true) in
     let took = take_done s t c.requires.ready c.args.from c.args.to c.requires.sender c.requires.taker c.loop.counter l _ _ c.take.result c.loop.invariant.0 c.take.ensures.does-its-step in
-    absurd (not_refused c.take.result _ _ took.1 c.in-err-message.was)
+    absurd (not_refused c.take.result _ _ took.1 c.in_err-message.was)
 
-pub returns-in-err-send : goal.returns-in-err-send
-returns-in-err-send g c =
+pub returns-in_err-send : goal.returns-in_err-send
+returns-in_err-send g c =
     let s = g.A.Wire.means c.args.source.now in
     let t = g.B.Wire.means c.args.target.now in
     let l : c.loop.counter < length (s.waiting c.args.from c.args.to) = omega (arith, c.len-waiting.ensures, c.loop-test.true) in
     let took = take_done s t c.requires.ready c.args.from c.args.to c.requires.sender c.requires.taker c.loop.counter l _ _ c.take.result c.loop.invariant.0 c.take.ensures.does-its-step in
-    let m = same_answer c.take.result c.in-ok-message.message _ c.in-ok-message.was took.1 in
-    let sent = send_done s t c.requires.ready c.args.from c.args.to c.requires.sender c.requires.taker c.loop.counter l c.in-ok-message.message _ _ c.send.result m c.loop.invariant.1 c.send.ensures.does-its-step in
-    absurd (not_refused c.send.result _ _ sent.1 c.in-err-send.was)
+    let m = same_answer c.take.result c.in_ok-message.message _ c.in_ok-message.was took.1 in
+    let sent = send_done s t c.requires.ready c.args.from c.args.to c.requires.sender c.requires.taker c.loop.counter l c.in_ok-message.message _ _ c.send.result m c.loop.invariant.1 c.send.ensures.does-its-step in
+    absurd (not_refused c.send.result _ _ sent.1 c.in_err-send.was)
 
 pub loop-preserved : goal.loop-preserved
 loop-preserved g c =
@@ -32,8 +32,8 @@ loop-preserved g c =
     let t = g.B.Wire.means c.args.target.now in
     let l : c.loop.counter < length (s.waiting c.args.from c.args.to) = omega (arith, c.len-waiting.ensures, c.loop-test.true) in
     let took = take_done s t c.requires.ready c.args.from c.args.to c.requires.sender c.requires.taker c.loop.counter l _ _ c.take.result c.loop.invariant.0 c.take.ensures.does-its-step in
-    let m = same_answer c.take.result c.in-ok-message.message _ c.in-ok-message.was took.1 in
-    let sent = send_done s t c.requires.ready c.args.from c.args.to c.requires.sender c.requires.taker c.loop.counter l c.in-ok-message.message _ _ c.send.result m c.loop.invariant.1 c.send.ensures.does-its-step in
+    let m = same_answer c.take.result c.in_ok-message.message _ c.in_ok-message.was took.1 in
+    let sent = send_done s t c.requires.ready c.args.from c.args.to c.requires.sender c.requires.taker c.loop.counter l c.in_ok-message.message _ _ c.send.result m c.loop.invariant.1 c.send.ensures.does-its-step in
     (took.0, sent.0)
 
 pub returns : goal.returns

@@ -5,8 +5,8 @@ use Rattle.wires.proofs.transfer.move_row.Goals as goal
 pub loop-to-init : goal.loop-to-init
 loop-to-init g c = row_none c.args.from (g.A.Wire.means c.args.source.now) (g.B.Wire.means c.args.target.now)
 
-pub move-pair-requires : goal.move-pair-requires
-move-pair-requires g c =
+pub move_pair-requires : goal.move_pair-requires
+move_pair-requires g c =
     let inv = c.loop-to.invariant in
     let boards = boards_left _ _ _ _ _ inv in
     record {
@@ -16,4 +16,4 @@ move-pair-requires g c =
     }
 
 pub loop-to-preserved : goal.loop-to-preserved
-loop-to-preserved g c = row_more c.args.from c.loop-to.to _ _ _ _ _ _ c.loop-to.invariant c.move-pair.ensures.moved
+loop-to-preserved g c = row_more c.args.from c.loop-to.to _ _ _ _ _ _ c.loop-to.invariant c.move_pair.ensures.moved

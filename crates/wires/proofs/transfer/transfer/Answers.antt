@@ -6,8 +6,8 @@ use Rattle.wires.proofs.transfer.transfer.Goals as goal
 pub loop-from-init : goal.loop-from-init
 loop-from-init g c = rows_none c.boards-boards.result (g.A.Wire.means c.args.source.now) (g.B.Wire.means c.args.target.now)
 
-pub move-row-requires : goal.move-row-requires
-move-row-requires g c =
+pub move_row-requires : goal.move_row-requires
+move_row-requires g c =
     let inv = c.loop-from.invariant in
     let s = g.A.Wire.means c.args.source.now in
     let t = g.B.Wire.means c.args.target.now in
@@ -21,7 +21,7 @@ move-row-requires g c =
     }
 
 pub loop-from-preserved : goal.loop-from-preserved
-loop-from-preserved g c = rows_more c.boards-boards.result c.loop-from.from _ _ _ _ _ _ c.loop-from.invariant c.move-row.ensures.moved
+loop-from-preserved g c = rows_more c.boards-boards.result c.loop-from.from _ _ _ _ _ _ c.loop-from.invariant c.move_row.ensures.moved
 
 pub returns : goal.returns
 returns g c =

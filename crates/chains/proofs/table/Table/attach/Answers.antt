@@ -7,8 +7,8 @@ pub returns-then-chain-eq0 : goal.returns-then-chain-eq0
 returns-then-chain-eq0 c =
     attached_first c.args.self.now _ c.args.i c.args.place c.args.message c.requires.linked c.requires.chain c.requires.loose c.if-chain-eq0.true refl refl
 
-pub offset-bounds-self-chain : goal.offset-bounds-self-chain
-offset-bounds-self-chain c =
+pub offset_bounds-self-chain : goal.offset_bounds-self-chain
+offset_bounds-self-chain c =
     let t = c.args.self.now in
     let h : (chain_of t c.args.i).last < length t.links.now = last_within t c.args.i c.requires.linked c.if-chain-eq0.false in
     search rules

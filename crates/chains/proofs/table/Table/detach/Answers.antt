@@ -3,8 +3,8 @@ use Rattle.chains.specs.Tables.{chain_of}
 use Rattle.chains.proofs.Detaches.{detached, first_within}
 use Rattle.chains.proofs.table.Table.detach.Goals as goal
 
-pub offset-bounds-self-place : goal.offset-bounds-self-place
-offset-bounds-self-place c =
+pub offset_bounds-self-place : goal.offset_bounds-self-place
+offset_bounds-self-place c =
     let t = c.args.self.now in
     let h : (chain_of t c.args.i).first < length t.links.now = first_within t c.args.i c.requires.linked c.requires.some in
     search rules

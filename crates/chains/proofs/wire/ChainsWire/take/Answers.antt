@@ -7,7 +7,7 @@ returns-then-len-eq0 c =
     let w = c.args.self.now in
     record {
       does-its-step =
-          nothing_taken w c.args.from c.args.to c.chain-of-chain.result c.if-from-self.false c.if-to-self.false c.chain-of-chain.ensures
+          nothing_taken w c.args.from c.args.to c.chain_of-chain.result c.if-from-self.false c.if-to-self.false c.chain_of-chain.ensures
           (sym c.len.ensures ∙ c.if-len-eq0.true);
       refused-leaves-all-as-it-was = refl;
     }
@@ -15,10 +15,10 @@ returns-then-len-eq0 c =
 pub pop-message-requires : goal.pop-message-requires
 pop-message-requires c =
     let w = c.args.self.now in
-    let i = c.chain-of-chain.result in
+    let i = c.chain_of-chain.result in
     let lf = c.if-from-self.false in
     let lt = c.if-to-self.false in
-    let is = c.chain-of-chain.ensures in
+    let is = c.chain_of-chain.ensures in
     record {
       linked = all_linked w;
       chain = chain_low w c.args.from c.args.to i lf lt is;
@@ -26,20 +26,20 @@ pop-message-requires c =
       room = omega (arith, w.counted, c.len.ensures, c.if-len-eq0.false, chain_within w c.args.from c.args.to i lf lt is);
     }
 
-pub overflow-sub-self : goal.overflow-sub-self
-overflow-sub-self c =
+pub overflow_sub-self : goal.overflow_sub-self
+overflow_sub-self c =
     let w = c.args.self.now in
-    omega (arith, c.len.ensures, c.if-len-eq0.false, chain_within w c.args.from c.args.to c.chain-of-chain.result c.if-from-self.false c.if-to-self.false c.chain-of-chain.ensures)
+    omega (arith, c.len.ensures, c.if-len-eq0.false, chain_within w c.args.from c.args.to c.chain_of-chain.result c.if-from-self.false c.if-to-self.false c.chain_of-chain.ensures)
 
 pub invariant-of-self : goal.invariant-of-self
 invariant-of-self c =
     let w = c.args.self.now in
     let f = c.args.from in
     let t = c.args.to in
-    let i = c.chain-of-chain.result in
+    let i = c.chain_of-chain.result in
     let lf = c.if-from-self.false in
     let lt = c.if-to-self.false in
-    let is = c.chain-of-chain.ensures in
+    let is = c.chain_of-chain.ensures in
     let p = c.pop-message.ensures in
     let l = p.linked in
     let u = c.pop-message.new.self in
@@ -52,7 +52,7 @@ returns c =
     let w = c.args.self.now in
     record {
       does-its-step =
-          taken w c.args.from c.args.to c.chain-of-chain.result c.if-from-self.false c.if-to-self.false c.chain-of-chain.ensures
+          taken w c.args.from c.args.to c.chain_of-chain.result c.if-from-self.false c.if-to-self.false c.chain_of-chain.ensures
           c.pop-message.new.self c.pop-message.result c.pop-message.ensures;
       refused-leaves-all-as-it-was = tt;
     }

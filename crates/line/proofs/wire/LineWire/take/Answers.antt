@@ -5,11 +5,11 @@ use Rattle.line.proofs.Joins.{joins_removed}
 use Rattle.line.proofs.Steps.{take_none, take_one}
 use Rattle.line.proofs.wire.LineWire.take.Goals as goal
 
-pub returns-in-default : goal.returns-in-default
-returns-in-default c =
+pub returns-in_default : goal.returns-in_default
+returns-in_default c =
     let s = c.args.self.now in
     record {
-      does-its-step = take_none s.boards (room s.letters) (kept s.letters) c.args.from c.args.to c.if-from-self.false c.if-to-self.false c.in-default.ensures;
+      does-its-step = take_none s.boards (room s.letters) (kept s.letters) c.args.from c.args.to c.if-from-self.false c.if-to-self.false c.in_default.ensures;
       refused-leaves-all-as-it-was = refl;
     }
 

@@ -2,14 +2,14 @@ use Rattle.std.proofs.Common.{◌+◌, ◌*◌, ◌≤◌, length, refl, arith, 
 use Rattle.queue.proofs.QueuesOf.{queue_ends}
 use Rattle.queue.proofs.queues.Queues.flat.Goals as goal
 
-pub overflow-mul-result : goal.overflow-mul-result
-overflow-mul-result g c =
+pub overflow_mul-result : goal.overflow_mul-result
+overflow_mul-result g c =
     let q = c.args.self.now in
     let h : c.args.b * q.layout.each + q.layout.each ≤ length q.places.now = queue_ends q c.args.b c.requires.queue in
     search rules
 
-pub overflow-add-result : goal.overflow-add-result
-overflow-add-result g c =
+pub overflow_add-result : goal.overflow_add-result
+overflow_add-result g c =
     let q = c.args.self.now in
     let h : c.args.b * q.layout.each + q.layout.each ≤ length q.places.now = queue_ends q c.args.b c.requires.queue in
     search rules

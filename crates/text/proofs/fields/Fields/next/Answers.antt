@@ -6,25 +6,25 @@ pub returns-then-n-tail : goal.returns-then-n-tail
 returns-then-n-tail c =
     record {
       line = refl;
-      cases = (field_open c.args.end c.args.self.now.tail.now (λ k l. c.field-len-n.ensures.inside k (omega arith)), refl);
+      cases = (field_open c.args.end c.args.self.now.tail.now (λ k l. c.field_len-n.ensures.inside k (omega arith)), refl);
     }
 
 pub returns-then-tail-n : goal.returns-then-tail-n
 returns-then-tail-n c =
-    let n = c.field-len-n.result in
+    let n = c.field_len-n.result in
     let xs = c.args.self.now.tail.now in
     let l : n < length xs = omega arith in
     record {
       line = refl;
-      cases = (field_other c.args.end xs n l c.field-len-n.ensures.inside (c.field-len-n.ensures.ended l) c.if-tail-n.true, refl);
+      cases = (field_other c.args.end xs n l c.field_len-n.ensures.inside (c.field_len-n.ensures.ended l) c.if-tail-n.true, refl);
     }
 
 pub returns : goal.returns
 returns c =
-    let n = c.field-len-n.result in
+    let n = c.field_len-n.result in
     let xs = c.args.self.now.tail.now in
     let l : n < length xs = omega arith in
     record {
       line = refl;
-      cases = (field_part c.args.end xs n l c.field-len-n.ensures.inside (c.field-len-n.ensures.ended l) c.if-tail-n.false, refl);
+      cases = (field_part c.args.end xs n l c.field_len-n.ensures.inside (c.field_len-n.ensures.ended l) c.if-tail-n.false, refl);
     }

@@ -14,12 +14,12 @@ pub returns : goal.returns
 returns c =
     let r = c.args.self.now in
     let xs = r.input.now in
-    let n = c.line-len.result in
+    let n = c.line_len.result in
     let t = take_rest xs r.pos in
     let m = length-drop r.pos xs in
-    let within : n ≤ length (drop r.pos xs) = rw t at c.line-len.ensures.within in
-    let some : 0 < n = (rw t at c.line-len.ensures.some) (omega arith) in
-    let first : lines (drop r.pos xs) ≡ take n (drop r.pos xs) ∷ lines (drop n (drop r.pos xs)) = (rw t at c.line-len.ensures.first) some in
+    let within : n ≤ length (drop r.pos xs) = rw t at c.line_len.ensures.within in
+    let some : 0 < n = (rw t at c.line_len.ensures.some) (omega arith) in
+    let first : lines (drop r.pos xs) ≡ take n (drop r.pos xs) ∷ lines (drop n (drop r.pos xs)) = (rw t at c.line_len.ensures.first) some in
     record {
       first = part_line xs r.pos n first;
       parts = part_rest xs r.pos n;
