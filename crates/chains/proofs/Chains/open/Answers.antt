@@ -18,7 +18,7 @@ returns c =
     let w = c.args.self.now in
     let few = c.if-boards-gt16.false in
     record {
-      does-its-step =
+      does_its_step =
           ap (λ k. (k, Ok tt)) (state_none w.table c.clear.new.self c.args.boards few c.clear.ensures) ∙ sym (open_few c.args.boards (wire_state w) few);
-      refused-leaves-all-as-it-was = tt;
+      refused_leaves_all_as_it_was = tt;
     }

@@ -15,7 +15,7 @@ returns c =
     let l = c.clear.new.self in
     let s = c.args.self.now in
     record {
-      does-its-step =
+      does_its_step =
           open_clear c.args.boards (room s.letters) (room l) (wire_state s) (kept l) c.if-boards-gt16.false refl c.clear.ensures.keeps c.clear.ensures.has_room;
-      refused-leaves-all-as-it-was = tt;
+      refused_leaves_all_as_it_was = tt;
     }

@@ -51,7 +51,7 @@ returns-in_err-on_line g c =
     let f = c.in_err-on_line.field-0.0 in
     let h = on_line_err 2 f c.set_up.result c.in_err-on_line.ensures in
     let e = refused_settings brought ls s one.0 c.in_ok-settings.settings t h.0 (ap settings_in (sym one.1) ∙ two.0)
-    (ap (λ r. (t, r)) (sym h.1.0) ∙ c.set_up.ensures.does-its-step) in
+    (ap (λ r. (t, r)) (sym h.1.0) ∙ c.set_up.ensures.does_its_step) in
     let r = err_from_is_err_and c.from_residual-in_err-on_line.result c.from_residual-in_err-on_line.ensures.1 in
     record {
       text = stopped (from_line_1 brought ls s) 2 (Pack h.0) t f c.from_residual-in_err-on_line.result (toward_start _ _) e h.1.1 (r.1 ∙ ap Err r.2);
@@ -69,7 +69,7 @@ returns-in_err-expect_names-2 g c =
     let two = c.in_ok-settings.ensures in
     let ok = on_line_ok 2 c.in_ok-on_line.field-0 c.set_up.result c.in_ok-on_line.ensures in
     let e = settings_done brought ls s one.0 c.in_ok-settings.settings t c.in_ok-on_line.field-0 (ap settings_in (sym one.1) ∙ two.0)
-    (ap (λ r. (t, r)) (sym ok) ∙ c.set_up.ensures.does-its-step) in
+    (ap (λ r. (t, r)) (sym ok) ∙ c.set_up.ensures.does_its_step) in
     let h = c.in_err-expect_names-2.ensures in
     let k = wrong_call_names (tail (tail ls)) t (ap (begins call_names) (sym (two.1 ∙ ap tail one.1)) ∙ h.0) in
     let f = c.in_err-expect_names-2.field-0.0 in
@@ -92,7 +92,7 @@ returns g c =
     let three = c.in_ok-expect_names-2.ensures in
     let ok = on_line_ok 2 c.in_ok-on_line.field-0 c.set_up.result c.in_ok-on_line.ensures in
     let e = settings_done brought ls s one.0 c.in_ok-settings.settings t c.in_ok-on_line.field-0 (ap settings_in (sym one.1) ∙ two.0)
-    (ap (λ r. (t, r)) (sym ok) ∙ c.set_up.ensures.does-its-step) in
+    (ap (λ r. (t, r)) (sym ok) ∙ c.set_up.ensures.does_its_step) in
     let past = two.1 ∙ ap tail one.1 in
     let k = right_call_names (tail (tail ls)) t (ap (begins call_names) (sym past) ∙ three.0) in
     let last = c.expect_names-2.new.reader in

@@ -13,7 +13,7 @@ returns-in_err-message g c =
     let s = g.A.Wire.means c.args.source.now in
     let t = g.B.Wire.means c.args.target.now in
     let l : c.loop.counter < length (s.waiting c.args.from c.args.to) = omega (arith, c.len-waiting.ensures, c.loop-test.true) in
-    let took = take_done s t c.requires.ready c.args.from c.args.to c.requires.sender c.requires.taker c.loop.counter l _ _ c.take.result c.loop.invariant.0 c.take.ensures.does-its-step in
+    let took = take_done s t c.requires.ready c.args.from c.args.to c.requires.sender c.requires.taker c.loop.counter l _ _ c.take.result c.loop.invariant.0 c.take.ensures.does_its_step in
     absurd (not_refused c.take.result _ _ took.1 c.in_err-message.was)
 
 pub returns-in_err-send : goal.returns-in_err-send
@@ -21,9 +21,9 @@ returns-in_err-send g c =
     let s = g.A.Wire.means c.args.source.now in
     let t = g.B.Wire.means c.args.target.now in
     let l : c.loop.counter < length (s.waiting c.args.from c.args.to) = omega (arith, c.len-waiting.ensures, c.loop-test.true) in
-    let took = take_done s t c.requires.ready c.args.from c.args.to c.requires.sender c.requires.taker c.loop.counter l _ _ c.take.result c.loop.invariant.0 c.take.ensures.does-its-step in
+    let took = take_done s t c.requires.ready c.args.from c.args.to c.requires.sender c.requires.taker c.loop.counter l _ _ c.take.result c.loop.invariant.0 c.take.ensures.does_its_step in
     let m = same_answer c.take.result c.in_ok-message.message _ c.in_ok-message.was took.1 in
-    let sent = send_done s t c.requires.ready c.args.from c.args.to c.requires.sender c.requires.taker c.loop.counter l c.in_ok-message.message _ _ c.send.result m c.loop.invariant.1 c.send.ensures.does-its-step in
+    let sent = send_done s t c.requires.ready c.args.from c.args.to c.requires.sender c.requires.taker c.loop.counter l c.in_ok-message.message _ _ c.send.result m c.loop.invariant.1 c.send.ensures.does_its_step in
     absurd (not_refused c.send.result _ _ sent.1 c.in_err-send.was)
 
 pub loop-preserved : goal.loop-preserved
@@ -31,9 +31,9 @@ loop-preserved g c =
     let s = g.A.Wire.means c.args.source.now in
     let t = g.B.Wire.means c.args.target.now in
     let l : c.loop.counter < length (s.waiting c.args.from c.args.to) = omega (arith, c.len-waiting.ensures, c.loop-test.true) in
-    let took = take_done s t c.requires.ready c.args.from c.args.to c.requires.sender c.requires.taker c.loop.counter l _ _ c.take.result c.loop.invariant.0 c.take.ensures.does-its-step in
+    let took = take_done s t c.requires.ready c.args.from c.args.to c.requires.sender c.requires.taker c.loop.counter l _ _ c.take.result c.loop.invariant.0 c.take.ensures.does_its_step in
     let m = same_answer c.take.result c.in_ok-message.message _ c.in_ok-message.was took.1 in
-    let sent = send_done s t c.requires.ready c.args.from c.args.to c.requires.sender c.requires.taker c.loop.counter l c.in_ok-message.message _ _ c.send.result m c.loop.invariant.1 c.send.ensures.does-its-step in
+    let sent = send_done s t c.requires.ready c.args.from c.args.to c.requires.sender c.requires.taker c.loop.counter l c.in_ok-message.message _ _ c.send.result m c.loop.invariant.1 c.send.ensures.does_its_step in
     (took.0, sent.0)
 
 pub returns : goal.returns
@@ -43,5 +43,5 @@ returns g c =
     let l : length (s.waiting c.args.from c.args.to) ≤ c.loop.counter = omega (arith, c.len-waiting.ensures, c.loop-test.false) in
     record {
       moved = rw (c.loop.invariant.0, c.loop.invariant.1) (pair_moved s t c.requires.ready c.args.from c.args.to c.requires.sender c.requires.taker c.loop.counter l);
-      never-refused = refl;
+      never_refused = refl;
     }

@@ -32,6 +32,6 @@ returns g c =
     c.if-boards.false c.if-free-total.false in
     let end : c.loop-from.from ≡ s.boards = omega (arith, c.boards-boards.ensures.number, c.loop-from.auto.from-end, c.loop-from-test.false) in
     record {
-      does-its-step = all_moved s t _ _ _ _ c.boards-boards.ensures.proper ready end c.boards-boards.ensures.number c.loop-from.invariant;
-      refused-leaves-all-as-it-was = tt;
+      does_its_step = all_moved s t _ _ _ _ c.boards-boards.ensures.proper ready end c.boards-boards.ensures.number c.loop-from.invariant;
+      refused_leaves_all_as_it_was = tt;
     }

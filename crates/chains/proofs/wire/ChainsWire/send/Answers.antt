@@ -6,10 +6,10 @@ pub returns-then-len-eq0 : goal.returns-then-len-eq0
 returns-then-len-eq0 c =
     let w = c.args.self.now in
     record {
-      does-its-step =
+      does_its_step =
           nothing_sent w c.args.from c.args.to (c.args.from * 16 + c.args.to) c.if-from-self.false c.if-to-self.false refl c.args.message
           (sym c.len.ensures ∙ c.if-len-eq0.true);
-      refused-leaves-all-as-it-was = refl;
+      refused_leaves_all_as_it_was = refl;
     }
 
 pub push-requires : goal.push-requires
@@ -46,8 +46,8 @@ pub returns : goal.returns
 returns c =
     let w = c.args.self.now in
     record {
-      does-its-step =
+      does_its_step =
           sent w c.args.from c.args.to c.chain_of.result c.if-from-self.false c.if-to-self.false c.chain_of.ensures
           c.push.new.self c.args.message c.push.ensures (λ e. c.if-len-eq0.false (c.len.ensures ∙ e));
-      refused-leaves-all-as-it-was = tt;
+      refused_leaves_all_as_it_was = tt;
     }

@@ -6,10 +6,10 @@ pub returns-then-len-eq0 : goal.returns-then-len-eq0
 returns-then-len-eq0 c =
     let w = c.args.self.now in
     record {
-      does-its-step =
+      does_its_step =
           nothing_taken w c.args.from c.args.to c.chain_of-chain.result c.if-from-self.false c.if-to-self.false c.chain_of-chain.ensures
           (sym c.len.ensures ∙ c.if-len-eq0.true);
-      refused-leaves-all-as-it-was = refl;
+      refused_leaves_all_as_it_was = refl;
     }
 
 pub pop-message-requires : goal.pop-message-requires
@@ -51,8 +51,8 @@ pub returns : goal.returns
 returns c =
     let w = c.args.self.now in
     record {
-      does-its-step =
+      does_its_step =
           taken w c.args.from c.args.to c.chain_of-chain.result c.if-from-self.false c.if-to-self.false c.chain_of-chain.ensures
           c.pop-message.new.self c.pop-message.result c.pop-message.ensures;
-      refused-leaves-all-as-it-was = tt;
+      refused_leaves_all_as_it_was = tt;
     }

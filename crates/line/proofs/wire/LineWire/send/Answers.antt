@@ -9,9 +9,9 @@ pub returns-then-len-room : goal.returns-then-len-room
 returns-then-len-room c =
     let s = c.args.self.now in
     record {
-      does-its-step = send_full s.boards (room s.letters) (kept s.letters) s.joined c.args.from c.args.to c.if-from-self.false c.if-to-self.false c.args.message
+      does_its_step = send_full s.boards (room s.letters) (kept s.letters) s.joined c.args.from c.args.to c.if-from-self.false c.if-to-self.false c.args.message
           (sym c.len.ensures ∙ c.if-len-room.true ∙ c.room.ensures);
-      refused-leaves-all-as-it-was = refl;
+      refused_leaves_all_as_it_was = refl;
     }
 
 pub invariant-of-self : goal.invariant-of-self
@@ -33,7 +33,7 @@ returns c =
     let s = c.args.self.now in
     let l = c.push.new.self in
     record {
-      does-its-step = send_more s.boards (room s.letters) (kept s.letters) s.joined c.args.from c.args.to c.if-from-self.false c.if-to-self.false c.args.message
+      does_its_step = send_more s.boards (room s.letters) (kept s.letters) s.joined c.args.from c.args.to c.if-from-self.false c.if-to-self.false c.args.message
           (kept l) (room l) (λ e. c.if-len-room.false (c.len.ensures ∙ e ∙ sym c.room.ensures)) c.push.ensures.keeps c.push.ensures.has_room;
-      refused-leaves-all-as-it-was = tt;
+      refused_leaves_all_as_it_was = tt;
     }

@@ -9,8 +9,8 @@ pub returns-in_default : goal.returns-in_default
 returns-in_default c =
     let s = c.args.self.now in
     record {
-      does-its-step = take_none s.boards (room s.letters) (kept s.letters) c.args.from c.args.to c.if-from-self.false c.if-to-self.false c.in_default.ensures;
-      refused-leaves-all-as-it-was = refl;
+      does_its_step = take_none s.boards (room s.letters) (kept s.letters) c.args.from c.args.to c.if-from-self.false c.if-to-self.false c.in_default.ensures;
+      refused_leaves_all_as_it_was = refl;
     }
 
 pub remove-requires : goal.remove-requires
@@ -29,7 +29,7 @@ returns c =
     let done = c.remove.ensures.closed in
     let found = c.in-Some.ensures in
     record {
-      does-its-step = take_one s.boards (room s.letters) (kept s.letters) c.args.from c.args.to c.if-from-self.false c.if-to-self.false c.remove.result c.in-Some.at
+      does_its_step = take_one s.boards (room s.letters) (kept s.letters) c.args.from c.args.to c.if-from-self.false c.if-to-self.false c.remove.result c.in-Some.at
           (room l) (kept l) found.0 found.1 c.remove.ensures.message done.keeps done.has_room;
-      refused-leaves-all-as-it-was = tt;
+      refused_leaves_all_as_it_was = tt;
     }

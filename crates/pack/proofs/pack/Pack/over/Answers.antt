@@ -13,6 +13,6 @@ returns g c =
     let wire = c.args.wire in
     record {
       state = ap (λ z. with_boards z (blank (w.width wire) (w.capacity wire) (w.waiting wire))) (masked_none no_board _);
-      holds-what-it-was-given = (refl, refl, refl, refl);
+      holds_what_it_was_given = (refl, refl, refl, refl);
       memory = same_sizes _ _ _ _ _ _ _ _ refl refl c.over.ensures.places c.over-2.ensures.places;
     }
