@@ -1,5 +1,5 @@
 -- A board by its number, and the state after a change of one board: over registers and parts, whatever struct holds them.
-use Rattle.std.proofs.Common.{◌≡◌, ℕ, ◌<◌, List, refl, ap, ◌∙◌}
+use Rattle.std.proofs.Common.{◌≡◌, ℕ, ◌<◌, List, ap, ◌∙◌}
 use Rattle.theory.specs.declared.memory.Cell.{Cell}
 use Rattle.theory.specs.declared.memory.Entry.{Entry}
 use Rattle.theory.specs.declared.message.Held.{Held}

@@ -1,11 +1,10 @@
 -- Queues that get the numbers from 0 on, one by one.
-use Rattle.std.proofs.Common.{◌≡◌, ℕ, ◌+◌, ◌<◌, ◌≤◌, true, cond, ◌⊎◌, List, [], ◌∷◌, ◌++◌, length, sym, refl, ap, ◌∙◌, subst, inl, inr, zero-le, arith}
-use mathlib.Core.Path.{fun_ext}
+use Rattle.std.proofs.Common.{◌≡◌, ℕ, ◌+◌, ◌<◌, true, cond, ◌⊎◌, List, [], ◌∷◌, ◌++◌, length, sym, ap, ◌∙◌, inl, inr, arith}
 use Rattle.std.proofs.lemmas.Bool.{and_from, lt-ltb, cases_order}
 use Rattle.queue.specs.Pushes.{has_room_at, pushed_at}
 use Rattle.theory.specs.Functions.{masked, put}
 use Rattle.theory.specs.Lists.{below}
-use Rattle.theory.proofs.Functions.{put_same, put-put, put_is, put_own, masked_in, masked_out, masked_none}
+use Rattle.theory.proofs.Functions.{put_same, put-put, put_is, put_own, masked_in, masked_out}
 use Rattle.theory.proofs.Parts.{length-below, below_more}
 
 -- an empty queue has no number yet

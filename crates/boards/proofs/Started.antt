@@ -1,5 +1,5 @@
 -- The boards as set-up leaves them.
-use Rattle.std.proofs.Common.{◌≡◌, ℕ, ◌*◌, ◌<◌, ◌≤◌, List, [], length, replicate, sym, ap, ◌∙◌, mul-one, arith}
+use Rattle.std.proofs.Common.{◌≡◌, ℕ, ◌*◌, ◌<◌, ◌≤◌, List, [], replicate, ap, ◌∙◌, mul-one, arith}
 use Rattle.std.proofs.lemmas.Nat.{mul-le}
 use Rattle.theory.specs.declared.memory.Cell.{Cell}
 use Rattle.theory.specs.declared.memory.Cell.TheVariants.{Value}
@@ -13,7 +13,7 @@ use Rattle.theory.specs.State.{Board, no_board, no_entry}
 use Rattle.theory.proofs.Functions.{masked_in, masked_same}
 use Rattle.theory.proofs.Parts.{parts-replicate}
 use Rattle.boards.specs.declared.registers.Registers.{Registers}
-use Rattle.boards.specs.Models.{look, looks, shown, registers_of, bare, Bare}
+use Rattle.boards.specs.Models.{looks, shown, registers_of, Bare}
 
 pub own_credit : (credit boards : ℕ) → 1 ≤ boards → credit ≤ credit * boards
 own_credit credit boards h = omega (arith, mul-le credit 1 credit boards (omega arith) h, mul-one credit)

@@ -1,5 +1,5 @@
 -- The state that a core stands for.
-use Rattle.std.specs.Prelude.{◌≡◌, ℕ, ◌*◌, ◌<◌, ◌≤◌, false, List, [], length, replicate, slice_index_or}
+use Rattle.std.specs.Prelude.{◌≡◌, ℕ, ◌*◌, ◌≤◌, false, List, [], length, replicate, slice_index_or}
 use Rattle.std.proofs.Common.{zero-le}
 use Rattle.queue.specs.QueuesOf.{queues, count_of, each_of, places_len}
 use Rattle.theory.specs.declared.memory.Cell.{Cell}

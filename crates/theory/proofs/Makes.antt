@@ -1,9 +1,9 @@
 -- What make comes to once its first checks have passed.
-use Rattle.std.proofs.Common.{◌≡◌, ℕ, ◌-◌, ◌<◌, ◌≤◌, true, false, cond, Some, None, Option, ap, ◌∙◌, arith}
+use Rattle.std.proofs.Common.{◌≡◌, ℕ, ◌-◌, ◌<◌, ◌≤◌, false, cond, Some, None, ap, ◌∙◌, arith}
 use Rattle.std.proofs.lemmas.Bool.{le-leb}
 use Rattle.std.proofs.lemmas.Bool.Decides.{nat_tests}
 use Rattle.theory.specs.declared.fault.PackFault.TheVariants.{NoEntry, NoRoom}
-use Rattle.theory.specs.Answer.{Answer, accepted, refused, collecting}
+use Rattle.theory.specs.Answer.{accepted, refused, collecting}
 use Rattle.theory.specs.Lists.{head}
 use Rattle.theory.specs.Make.{make, make_at, with_record}
 use Rattle.theory.specs.State.{State, change}

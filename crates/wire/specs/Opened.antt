@@ -1,5 +1,5 @@
 -- Opening a wire for a number of boards.
-use Rattle.std.specs.Prelude.{ℕ, cond, List, Ok, Err, Result, nat_lt}
+use Rattle.std.specs.Prelude.{ℕ, cond, List, Ok, Err, nat_lt}
 use Rattle.theory.specs.Answer.{Answer}
 use Rattle.theory.specs.declared.fault.PackFault.TheVariants.{Setting}
 use Rattle.wire.specs.declared.line.Letter.{Letter}

@@ -1,4 +1,4 @@
-use Rattle.std.proofs.Common.{◌≡◌, ◌-◌, length, ap, ◌∙◌, length-set}
+use Rattle.std.proofs.Common.{◌≡◌, length, ap, ◌∙◌, length-set}
 use Rattle.theory.specs.Functions.{put}
 use Rattle.theory.specs.Lists.{parts}
 use Rattle.theory.proofs.Parts.{length-parts, length-put, parts-put}

@@ -2,7 +2,7 @@ use Rattle.std.proofs.Common.{◌≡◌, true, cond, [], sym, refl, ap, ◌∙�
 use Rattle.std.proofs.lemmas.Bool.{and_from, le-leb}
 use Rattle.queue.specs.Layouts.{layout_fits}
 use Rattle.queue.specs.QueuesOf.{queues, count_of, each_of, places_len}
-use Rattle.theory.specs.Functions.{masked, put}
+use Rattle.theory.specs.Functions.{put}
 use Rattle.theory.specs.Lists.{below}
 use Rattle.theory.proofs.Functions.{masked_none, masked_out}
 use Rattle.boards.proofs.Numbered.{queues_more}

@@ -1,4 +1,4 @@
-use Rattle.std.proofs.Common.{refl, ap, ◌∙◌, arith}
+use Rattle.std.proofs.Common.{refl, ◌∙◌, arith}
 use Rattle.queue.specs.QueuesOf.{queues, count_of, each_of}
 use Rattle.boards.proofs.Numbered.{numbered_none, numbered_more}
 use Rattle.boards.proofs.numbering.number_one.Goals as goal

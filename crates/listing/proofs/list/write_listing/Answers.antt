@@ -1,4 +1,4 @@
-use Rattle.std.proofs.Common.{◌≡◌, ◌++◌, codes, sym, ap, ◌∙◌, subst}
+use Rattle.std.proofs.Common.{◌≡◌, ◌++◌, codes, ap, ◌∙◌, subst}
 use Rattle.text.specs.Left.{left}
 use Rattle.text.specs.Lines.{lines}
 use Rattle.text.specs.Written.{Wrote}

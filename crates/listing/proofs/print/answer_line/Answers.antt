@@ -1,4 +1,4 @@
-use Rattle.std.proofs.Common.{ℕ, List, [], ◌∷◌, ◌++◌, decimal, ap, subst}
+use Rattle.std.proofs.Common.{ℕ, [], ◌∷◌, ◌++◌, decimal, subst}
 use Rattle.text.specs.Written.{Wrote}
 use Rattle.text.proofs.Writes.{◌then◌}
 use Rattle.listing.proofs.print.answer_line.Goals as goal

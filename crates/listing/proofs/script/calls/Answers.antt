@@ -1,4 +1,4 @@
-use Rattle.std.proofs.Common.{◌≡◌, ℕ, ◌+◌, ◌++◌, Err, sym, refl, ap, ◌∙◌}
+use Rattle.std.proofs.Common.{◌≡◌, ◌+◌, ◌++◌, Err, sym, refl, ap, ◌∙◌}
 use Rattle.text.specs.Left.{left, given}
 use Rattle.text.specs.Lines.{lines}
 use Rattle.pack.specs.Shown.{state}

@@ -1,4 +1,4 @@
-use Rattle.std.proofs.Common.{◌≡◌, ℕ, ◌+◌, Some, Ok, Err, sym, ap, ◌∙◌, arith}
+use Rattle.std.proofs.Common.{◌≡◌, ◌+◌, Err, sym, ap, ◌∙◌, arith}
 use Rattle.std.proofs.lemmas.Result.{err_from_is_err_and}
 use Rattle.text.specs.Left.{left, given}
 use Rattle.text.specs.Lines.{lines}
@@ -6,7 +6,7 @@ use Rattle.theory.specs.Lists.{tail}
 use Rattle.pack.specs.Shown.{state, memory}
 use Rattle.listing.specs.declared.fault.Refusal.TheVariants.{Names, Values, Pack}
 use Rattle.listing.specs.Listing.{Out, begins, settings_in, from_line_1, from_line_3, call_lines}
-use Rattle.listing.specs.Lines.{settings_names, call_names}
+use Rattle.listing.specs.Lines.{call_names}
 use Rattle.listing.proofs.Steps.{stopped, on_line_err, on_line_ok, wrong_names, wrong_settings, refused_settings, settings_done, wrong_call_names, right_call_names, toward_start, toward_more, toward_then}
 use Rattle.listing.proofs.script.script.Goals as goal
 
