@@ -4,14 +4,14 @@ use Rattle.chains.proofs.Wires.{counted_none, summed_none, state_none}
 use Rattle.theory.proofs.Wires.{open_few}
 use Rattle.chains.proofs.Chains.open.Goals as goal
 
-pub invariant-of-self : goal.invariant-of-self
-invariant-of-self c =
+pub invariant_of-self : goal.invariant_of-self
+invariant_of-self c =
     let s = c.args.self.now.table in
     let t = c.clear.new.self in
     let few = c.if-boards-gt16.false in
     let e = c.clear.ensures in
     let l = e.linked in
-    (l.chained, (l.apart, (l.within, (l.ends, (few, (counted_none s t c.args.boards few e, (summed_none s t c.args.boards few e, tt)))))))
+    record { chained = l.chained; apart = l.apart; within = l.within; ends = l.ends; few = few; counted = counted_none s t c.args.boards few e; summed = summed_none s t c.args.boards few e }
 
 pub returns : goal.returns
 returns c =

@@ -6,9 +6,9 @@ use Rattle.line.proofs.Joins.{joins_none}
 use Rattle.line.proofs.Steps.{open_clear}
 use Rattle.line.proofs.Line.open.Goals as goal
 
-pub invariant-of-self : goal.invariant-of-self
-invariant-of-self c =
-    (omega arith, (c.clear.ensures.fits, (ap (joins _) c.clear.ensures.keeps ∙ joins_none _, tt)))
+pub invariant_of-self : goal.invariant_of-self
+invariant_of-self c =
+    record { few = omega arith; fits = c.clear.ensures.fits; joined = ap (joins _) c.clear.ensures.keeps ∙ joins_none _ }
 
 pub returns : goal.returns
 returns c =

@@ -26,8 +26,8 @@ push-requires c =
       room = omega (arith, w.counted, c.len.ensures, c.if-len-eq0.false, chain_within w c.args.from c.args.to i lf lt is);
     }
 
-pub invariant-of-self : goal.invariant-of-self
-invariant-of-self c =
+pub invariant_of-self : goal.invariant_of-self
+invariant_of-self c =
     let w = c.args.self.now in
     let f = c.args.from in
     let t = c.args.to in
@@ -40,7 +40,7 @@ invariant-of-self c =
     let u = c.push.new.self in
     let counted = counted-pushed w f t i lf lt is u c.args.message p in
     let summed = summed_pushed w f t i lf lt is u c.args.message p in
-    (l.chained, (l.apart, (l.within, (l.ends, (w.few, (counted, (summed, tt)))))))
+    record { chained = l.chained; apart = l.apart; within = l.within; ends = l.ends; few = w.few; counted = counted; summed = summed }
 
 pub returns : goal.returns
 returns c =

@@ -31,8 +31,8 @@ overflow_sub-self c =
     let w = c.args.self.now in
     omega (arith, c.len.ensures, c.if-len-eq0.false, chain_within w c.args.from c.args.to c.chain_of-chain.result c.if-from-self.false c.if-to-self.false c.chain_of-chain.ensures)
 
-pub invariant-of-self : goal.invariant-of-self
-invariant-of-self c =
+pub invariant_of-self : goal.invariant_of-self
+invariant_of-self c =
     let w = c.args.self.now in
     let f = c.args.from in
     let t = c.args.to in
@@ -45,7 +45,7 @@ invariant-of-self c =
     let u = c.pop-message.new.self in
     let counted = counted_popped w f t i lf lt is u c.pop-message.result p in
     let summed = summed_popped w f t i lf lt is u c.pop-message.result p in
-    (l.chained, (l.apart, (l.within, (l.ends, (w.few, (counted, (summed, tt)))))))
+    record { chained = l.chained; apart = l.apart; within = l.within; ends = l.ends; few = w.few; counted = counted; summed = summed }
 
 pub returns : goal.returns
 returns c =

@@ -14,19 +14,14 @@ returns-then-len-room c =
       refused_leaves_all_as_it_was = refl;
     }
 
-pub invariant-of-self : goal.invariant-of-self
-invariant-of-self c =
-    let s = c.args.self.now in (
-      s.few,
-      (
-        c.push.ensures.fits,
-        (
-          ap (joins s.boards) c.push.ensures.keeps
-              ∙ joins_push s.boards (kept s.letters) _ _ _ (omega arith) (omega arith) s.joined,
-          tt,
-        ),
-      ),
-    )
+pub invariant_of-self : goal.invariant_of-self
+invariant_of-self c =
+    let s = c.args.self.now in
+    record {
+      few = s.few;
+      fits = c.push.ensures.fits;
+      joined = ap (joins s.boards) c.push.ensures.keeps ∙ joins_push s.boards (kept s.letters) _ _ _ (omega arith) (omega arith) s.joined;
+    }
 
 pub returns : goal.returns
 returns c =

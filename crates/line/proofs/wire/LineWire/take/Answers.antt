@@ -16,11 +16,11 @@ returns-in_default c =
 pub remove-requires : goal.remove-requires
 remove-requires c = record { fits = c.args.self.now.fits; there = c.in-Some.ensures.1 }
 
-pub invariant-of-self : goal.invariant-of-self
-invariant-of-self c =
+pub invariant_of-self : goal.invariant_of-self
+invariant_of-self c =
     let s = c.args.self.now in
     let done = c.remove.ensures.closed in
-    (s.few, (done.fits, (ap (joins s.boards) done.keeps ∙ joins_removed s.boards (kept s.letters) c.in-Some.at s.joined, tt)))
+    record { few = s.few; fits = done.fits; joined = ap (joins s.boards) done.keeps ∙ joins_removed s.boards (kept s.letters) c.in-Some.at s.joined }
 
 pub returns : goal.returns
 returns c =
