@@ -2,12 +2,11 @@
 use Rattle.std.proofs.Common.{◌≡◌, ℕ, zero, suc, ◌+◌, ◌-◌, ◌<◌, ◌≤◌, ◌⊎◌, List, length, get_or, set, replicate, sym, refl, ap, ◌∙◌, ap₂, inl, inr, add-one, arith}
 use Rattle.std.proofs.lemmas.List.{length-set, length-replicate, get_or-replicate, get_or_past, get_or-set_same, get_or-set_other}
 use Rattle.std.proofs.lemmas.Bool.{cases_eq, cases_lt}
-use Rattle.chains.specs.declared.Link.{Link}
 use Rattle.chains.specs.declared.table.Chain.{Chain}
 use Rattle.chains.specs.declared.table.Table.{Table}
 use Rattle.chains.specs.Spots.{spot, listed}
 use Rattle.chains.specs.Changes.{Cleared}
-use Rattle.chains.specs.Tables.{no_chain, no_link, chain_of, len_of, place_of, places, next_in, message_in, Linked}
+use Rattle.chains.specs.Tables.{no_chain, chain_of, len_of, place_of, places, next_in, message_in, Linked}
 use Rattle.chains.proofs.Spots.{spot_start, spot-step, listed_none}
 
 -- where each place is followed by the next number, they are counted

@@ -1,16 +1,15 @@
 -- The steps of a wire, on the letters of a line.
-use Rattle.std.proofs.Common.{◌≡◌, ℕ, ◌+◌, ◌<◌, ◌≤◌, true, List, [], ◌∷◌, ◌++◌, length, get_or, Ok, Err, Result, sym, ap, ◌∙◌, ap₂}
+use Rattle.std.proofs.Common.{◌≡◌, ℕ, ◌<◌, ◌≤◌, true, List, [], ◌∷◌, ◌++◌, length, get_or, Ok, Err, Result, sym, ap, ◌∙◌, ap₂}
 use Rattle.std.specs.List.{remove}
 use Rattle.theory.specs.declared.fault.PackFault.{PackFault}
 use Rattle.theory.specs.declared.fault.WireFault.{WireFault}
 use Rattle.theory.specs.declared.fault.WireFault.TheVariants.{Full, Empty}
 use Rattle.theory.specs.declared.message.Message.{Message}
-use Rattle.theory.specs.Net.{total}
 use Rattle.theory.specs.Wire.{WireState, Proper, empty, open_for, send, take}
 use Rattle.theory.proofs.Wires as wires
 use Rattle.theory.proofs.Wires.{send_some, take_some, open_few}
 use Rattle.line.specs.declared.letters.Letter.{Letter}
-use Rattle.line.specs.Letters.{letter, pick, picked, line_of, first_of, joins}
+use Rattle.line.specs.Letters.{letter, pick, line_of, first_of, joins}
 use Rattle.line.proofs.Joins.{no_sender, no_taker, total-picked}
 use Rattle.line.proofs.Picks.{pick-send, pick-take, pick_removed, pick_none}
 
