@@ -10,7 +10,6 @@ import re
 import sys
 
 WORD = r"[\w'·-]"
-GIVEN = ("Answers.antt", "Invariants.antt", "Proof.antt", "Choices.antt")
 STD = set("length take drop set get_or append replicate reverse map sum put_mid between lines decimal".split())
 PLAIN = {"empty", "kept"}  # words that stand for themselves in a lemma's name, though functions have them too
 OLD = {"getD": "get_or", "nth": "slice_get"}

@@ -1,5 +1,5 @@
 -- What the chains of a table hold. Chain from * 16 + to is that of a pair of boards, chain 256 has the free places.
-use Rattle.std.specs.Prelude.{◌≡◌, ℕ, ◌+◌, ◌*◌, ◌<◌, cond, ◌&&◌, List, [], length, get_or, nat_lt, slice_index_or}
+use Rattle.std.specs.Prelude.{◌≡◌, ℕ, ◌+◌, ◌*◌, ◌<◌, cond, ◌&&◌, List, [], length, nat_lt, slice_index_or}
 use Rattle.theory.specs.declared.memory.Cell.TheVariants.{Value}
 use Rattle.theory.specs.declared.message.Message.{Message}
 use Rattle.theory.specs.declared.message.Message.TheVariants.{Operation}
@@ -18,10 +18,10 @@ abbrev pub no_link : Link
 no_link = record { message = Operation (Put (record { board = 0; entry = 0 }) 0 (Value 0)); next = 0 }
 
 abbrev pub next_in : List Link → ℕ → ℕ
-next_in links p = (get_or links p no_link).next
+next_in links p = (slice_index_or links p no_link).next
 
 abbrev pub message_in : List Link → ℕ → Message
-message_in links p = (get_or links p no_link).message
+message_in links p = (slice_index_or links p no_link).message
 
 abbrev pub chain_of : Table → ℕ → Chain
 chain_of t i = slice_index_or t.chains i no_chain
