@@ -1,5 +1,5 @@
 -- How a step ends: the state, and the answer.
-use Rattle.std.specs.Prelude.{Bool, true, false, cond, Ok, Err, Result}
+use Rattle.std.specs.Prelude.{Bool, true, false, Ok, Err, Result}
 use Rattle.theory.specs.declared.fault.PackFault.{PackFault}
 use Rattle.theory.specs.declared.memory.Mode.{Mode}
 use Rattle.theory.specs.declared.memory.Mode.TheVariants.{Run, Mark, Done}
@@ -14,10 +14,6 @@ accepted s = (s, Ok tt)
 -- a refusal changes nothing
 abbrev pub refused : PackFault → State → State × Answer
 refused e s = (s, Err e)
-
--- refuses where the test holds, and else goes on
-abbrev pub unless : Bool → PackFault → State → State × Answer → State × Answer
-unless test e s next = cond test (refused e s) next
 
 -- whether a board is in a collection
 abbrev pub collecting : Mode → Bool

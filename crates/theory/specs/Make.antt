@@ -1,11 +1,11 @@
 -- Make: a new record from the first free entry and the cells from the top up.
-use Rattle.std.specs.Prelude.{ℕ, ◌+◌, ◌-◌, Bool, false, Some, None, Option, nat_le, nat_lt, slice_set}
+use Rattle.std.specs.Prelude.{ℕ, ◌+◌, ◌-◌, Bool, Some, None, Option, nat_le, nat_lt, slice_set}
 use Rattle.theory.specs.declared.fault.PackFault.TheVariants.{NoBoard, NoSlot, BadSize, Collecting, Waiting, NoEntry, NoRoom}
 use Rattle.theory.specs.declared.memory.Cell.TheVariants.{Value, Ref}
 use Rattle.theory.specs.declared.memory.Entry.{Entry}
-use Rattle.theory.specs.declared.memory.Parent.TheVariants.{Root}
-use Rattle.theory.specs.Answer.{Answer, accepted, refused, unless, collecting}
+use Rattle.theory.specs.Answer.{Answer, accepted, refused, collecting}
 use Rattle.theory.specs.Lists.{wiped, head, tail}
+use Rattle.theory.specs.Refusals.{unless}
 use Rattle.theory.specs.State.{State, Board, change}
 
 -- whether so many free cells are too few for a record of this size
@@ -14,23 +14,16 @@ too_few cells size = nat_le cells size
 
 -- the entry of a record that no collection has marked
 abbrev pub unmarked : ℕ → ℕ → Entry
-unmarked size place = record { size = size; place = place; marked = false; parent = Root 0; gone = 0; owing = 0 }
+unmarked size place = record { size = size; place = place; mark = None }
 
 -- board b with a new record of `size` cells, which entry e describes and the slot refers to
 abbrev pub with_record : ℕ → ℕ → ℕ → ℕ → Board → Board
-with_record b slot size e x = record {
+with_record b slot size e x = record x {
   slots = slice_set x.slots slot (Ref (record { board = b; entry = e }));
   top = x.top + size;
   cells = wiped x.cells x.top size (Value 0);
   entries = slice_set x.entries e (unmarked size x.top);
   free = tail x.free;
-  held = x.held;
-  waits = x.waits;
-  outcome = x.outcome;
-  mode = x.mode;
-  requested = x.requested;
-  purse = x.purse;
-  round = x.round;
 }
 
 abbrev pub make_at : ℕ → ℕ → ℕ → Option ℕ → State → State × Answer

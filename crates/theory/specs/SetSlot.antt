@@ -2,7 +2,8 @@
 use Rattle.std.specs.Prelude.{ℕ, nat_le, nat_lt, slice_set}
 use Rattle.theory.specs.declared.fault.PackFault.TheVariants.{NoBoard, NoSlot, Collecting, Waiting}
 use Rattle.theory.specs.declared.memory.Cell.TheVariants.{Value}
-use Rattle.theory.specs.Answer.{Answer, accepted, unless, collecting}
+use Rattle.theory.specs.Answer.{Answer, accepted, collecting}
+use Rattle.theory.specs.Refusals.{unless}
 use Rattle.theory.specs.State.{State, with_slots, change}
 
 abbrev pub set_slot : ℕ → ℕ → ℕ → State → State × Answer

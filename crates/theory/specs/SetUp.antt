@@ -9,8 +9,9 @@ use Rattle.theory.specs.declared.state.Settings.{Settings}
 use Rattle.theory.specs.Answer.{Answer, accepted, refused}
 use Rattle.theory.specs.Functions.{masked}
 use Rattle.theory.specs.Lists.{below}
-use Rattle.theory.specs.Net.{Net, total, needed}
+use Rattle.theory.specs.Net.{needed}
 use Rattle.theory.specs.State.{State, Board, no_board, no_entry, no_round, no_figures, no_lead}
+use Rattle.theory.specs.Wire.{WireState, load}
 
 -- how much memory was brought: cells, entries, free numbers and held operations
 pub record Brought : Type 0 where
@@ -41,21 +42,17 @@ abbrev pub started : Settings → State → State
 started t s = record {
   settings = t;
   boards = masked t.boards no_board (λ _. fresh t);
-  width = s.width;
-  capacity = s.capacity;
-  net = s.net;
+  wire = s.wire;
   lead = no_lead;
   result = no_figures;
 }
 
 -- before set-up: no board at all
-abbrev pub blank : ℕ → ℕ → Net → State
-blank width capacity net = record {
+abbrev pub blank : WireState → State
+blank wire = record {
   settings = record { boards = 0; cells = 0; entries = 0; credit = 0 };
   boards = λ _. no_board;
-  width = width;
-  capacity = capacity;
-  net = net;
+  wire = wire;
   lead = no_lead;
   result = no_figures;
 }
@@ -85,11 +82,11 @@ memory_enough brought t =
     (fault_if (nat_lt brought.held (t.boards * t.boards)) Memory (Ok tt))))
 
 -- a wire that joins the boards, has the room that they need, and carries nothing yet
-abbrev pub wire_enough : ℕ → ℕ → Net → Settings → Answer
-wire_enough width capacity net t =
-    fault_if (nat_lt width t.boards) SmallWire
-    (fault_if (nat_lt capacity (needed t.boards t.credit)) SmallWire
-    (fault_if (nat_lt 0 (total width net)) BusyWire (Ok tt)))
+abbrev pub wire_enough : WireState → Settings → Answer
+wire_enough w t =
+    fault_if (nat_lt w.boards t.boards) SmallWire
+    (fault_if (nat_lt w.capacity (needed t.boards t.credit)) SmallWire
+    (fault_if (nat_lt 0 (load w)) BusyWire (Ok tt)))
 
 -- goes on where nothing was found
 abbrev pub unless_fault : Answer → State → State × Answer → State × Answer
@@ -100,5 +97,5 @@ abbrev pub set_up : Brought → Settings → State → State × Answer
 set_up brought t s =
     unless_fault (ranges t) s
     (unless_fault (memory_enough brought t) s
-    (unless_fault (wire_enough s.width s.capacity s.net t) s
+    (unless_fault (wire_enough s.wire t) s
     (accepted (started t s))))

@@ -1,19 +1,18 @@
--- A pack as a value: its settings, its boards, what waits on the wire, the lead's part and the last result.
-use Rattle.std.specs.Prelude.{ℕ, Bool, false, List, []}
+-- A pack as a value: its settings, its boards, its wire, the lead's part and the last result.
+use Rattle.std.specs.Prelude.{ℕ, Bool, false, List, [], None}
 use Rattle.theory.specs.declared.memory.Cell.{Cell}
 use Rattle.theory.specs.declared.memory.Entry.{Entry}
 use Rattle.theory.specs.declared.memory.Mode.{Mode}
 use Rattle.theory.specs.declared.memory.Mode.TheVariants.{Run}
 use Rattle.theory.specs.declared.memory.Outcome.{Outcome}
 use Rattle.theory.specs.declared.memory.Outcome.TheVariants.{Done}
-use Rattle.theory.specs.declared.memory.Parent.TheVariants.{Root}
 use Rattle.theory.specs.declared.message.Held.{Held}
 use Rattle.theory.specs.declared.state.Figures.{Figures}
 use Rattle.theory.specs.declared.state.Lead.{Lead}
 use Rattle.theory.specs.declared.state.Round.{Round}
 use Rattle.theory.specs.declared.state.Settings.{Settings}
 use Rattle.theory.specs.Functions.{put}
-use Rattle.theory.specs.Net.{Net}
+use Rattle.theory.specs.Wire.{WireState}
 
 -- the credit that a board has, and the most that it could have
 pub record Purse : Type 0 where
@@ -40,15 +39,12 @@ pub record Board : Type 0 where
 pub record State : Type 0 where
   pub settings : Settings
   pub boards : ℕ → Board
-  -- the wire: how many boards it joins, how many messages it can hold, and what waits
-  pub width : ℕ
-  pub capacity : ℕ
-  pub net : Net
+  pub wire : WireState
   pub lead : Lead
   pub result : Figures
 
 abbrev pub no_entry : Entry
-no_entry = record { size = 0; place = 0; marked = false; parent = Root 0; gone = 0; owing = 0 }
+no_entry = record { size = 0; place = 0; mark = None }
 
 abbrev pub no_round : Round
 no_round = record { sent = 0; answered = 0; started = false; shoves = 0; ends = 0; taken = 0 }
@@ -57,7 +53,7 @@ abbrev pub no_figures : Figures
 no_figures = record { kept = 0; messages = 0; freed = 0 }
 
 abbrev pub no_lead : Lead
-no_lead = record { closing = false; awaited = 0; wish = false; figures = no_figures }
+no_lead = record { closing = None; wish = false }
 
 -- the board of a number that names none
 abbrev pub no_board : Board
@@ -77,22 +73,22 @@ no_board = record {
 }
 
 abbrev pub with_slots : List Cell → Board → Board
-with_slots v x = record { slots = v; top = x.top; cells = x.cells; entries = x.entries; free = x.free; held = x.held; waits = x.waits; outcome = x.outcome; mode = x.mode; requested = x.requested; purse = x.purse; round = x.round }
+with_slots v x = record x { slots = v }
 
 abbrev pub with_top : ℕ → Board → Board
-with_top v x = record { slots = x.slots; top = v; cells = x.cells; entries = x.entries; free = x.free; held = x.held; waits = x.waits; outcome = x.outcome; mode = x.mode; requested = x.requested; purse = x.purse; round = x.round }
+with_top v x = record x { top = v }
 
 abbrev pub with_cells : List Cell → Board → Board
-with_cells v x = record { slots = x.slots; top = x.top; cells = v; entries = x.entries; free = x.free; held = x.held; waits = x.waits; outcome = x.outcome; mode = x.mode; requested = x.requested; purse = x.purse; round = x.round }
+with_cells v x = record x { cells = v }
 
 abbrev pub with_entries : List Entry → Board → Board
-with_entries v x = record { slots = x.slots; top = x.top; cells = x.cells; entries = v; free = x.free; held = x.held; waits = x.waits; outcome = x.outcome; mode = x.mode; requested = x.requested; purse = x.purse; round = x.round }
+with_entries v x = record x { entries = v }
 
 abbrev pub with_free : List ℕ → Board → Board
-with_free v x = record { slots = x.slots; top = x.top; cells = x.cells; entries = x.entries; free = v; held = x.held; waits = x.waits; outcome = x.outcome; mode = x.mode; requested = x.requested; purse = x.purse; round = x.round }
+with_free v x = record x { free = v }
 
 abbrev pub with_boards : (ℕ → Board) → State → State
-with_boards v s = record { settings = s.settings; boards = v; width = s.width; capacity = s.capacity; net = s.net; lead = s.lead; result = s.result }
+with_boards v s = record s { boards = v }
 
 -- the state with board b changed by f
 abbrev pub change : ℕ → (Board → Board) → State → State

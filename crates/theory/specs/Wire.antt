@@ -28,7 +28,7 @@ pub record Proper (w : WireState) : Type 0 where
 
 -- with other messages on one pair, and everything else as it was
 abbrev pub with_pair : ℕ → ℕ → List Message → WireState → WireState
-with_pair from to ms w = record { boards = w.boards; capacity = w.capacity; waiting = put_pair w.waiting from to ms }
+with_pair from to ms w = record w { waiting = put_pair w.waiting from to ms }
 
 -- a message joins the end of its pair
 abbrev pub send : ℕ → ℕ → Message → WireState → WireState × Result (Unit {0}) WireFault

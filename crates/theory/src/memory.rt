@@ -20,26 +20,29 @@ pub enum Parent {
     Entry(Ref),
 }
 
-// A record of `size` cells from `place` on; a free entry has size 0. While marked it knows its
-// parent, how many of its cells it has gone through, and how many answers it is still owed.
+// What a marked record knows: its parent, how many of its cells it has gone through, and how many answers it
+// is still owed.
+#[derive(Clone, Copy, PartialEq, Eq, Debug)]
+pub struct Mark {
+    pub parent: Parent,
+    pub gone: u32,
+    pub owing: u32,
+}
+
+// A record of `size` cells from `place` on; a free entry has size 0. The table is lent and its entries are
+// changed in place, so a free one is a row as any other and no variant of its own.
 #[derive(Clone, Copy, PartialEq, Eq, Debug)]
 pub struct Entry {
     pub size: u32,
     pub place: u32,
-    pub marked: bool,
-    pub parent: Parent,
-    pub gone: u32,
-    pub owing: u32,
+    pub mark: Option<Mark>,
 }
 
 impl Entry {
     pub const FREE: Entry = Entry {
         size: 0,
         place: 0,
-        marked: false,
-        parent: Parent::Root { board: 0 },
-        gone: 0,
-        owing: 0,
+        mark: None,
     };
 }
 

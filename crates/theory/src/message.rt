@@ -1,4 +1,6 @@
 // What boards send each other.
+ghost use Rattle.std.specs.Prelude.{◌↔◌, ◌<◌, IsTrue};
+
 use crate::memory::{Cell, Outcome, Parent, Ref};
 use crate::state::Figures;
 
@@ -40,6 +42,22 @@ pub enum Message {
     Swept(Figures),
     Mark { target: Ref, parent: Parent },
     Reply { parent: Parent },
+}
+
+// An ordered pair of boards: the one that sends, and the one that takes.
+#[derive(Clone, Copy, PartialEq, Eq, Debug)]
+pub struct Pair {
+    pub from: u32,
+    pub to: u32,
+}
+
+impl Pair {
+    // Whether both are below a number of boards.
+    pub fn is_below(self, boards: u32) -> bool
+        ensures { IsTrue result ↔ ((self.from < boards) × (self.to < boards)) }
+    {
+        self.from < boards && self.to < boards
+    }
 }
 
 // An operation that a board holds until it has swept, with the board that sent it.

@@ -1,6 +1,6 @@
 // A pack's settings, and the counts of a collection.
 
-#[derive(Clone, Copy, PartialEq, Eq, Debug)]
+#[derive(Clone, Copy, PartialEq, Eq, Debug, Default)]
 pub struct Settings {
     pub boards: u32,
     pub cells: u32,
@@ -9,7 +9,7 @@ pub struct Settings {
 }
 
 // What a board counts from the moment that it enters a collection.
-#[derive(Clone, Copy)]
+#[derive(Clone, Copy, PartialEq, Eq, Debug, Default)]
 pub struct Round {
     pub sent: u32,
     pub answered: u32,
@@ -21,47 +21,23 @@ pub struct Round {
 
 // The figures of a collection, or of one board's sweep: the tally of the kept records, the marking
 // messages taken, the cells freed.
-#[derive(Clone, Copy, PartialEq, Eq, Debug)]
+#[derive(Clone, Copy, PartialEq, Eq, Debug, Default)]
 pub struct Figures {
     pub kept: u64,
     pub messages: u64,
     pub freed: u64,
 }
 
-// What board 0 keeps as the lead: whether it waits for reports of sweeps and for how many, whether
-// a further collection is wished for, and the figures so far.
-#[derive(Clone, Copy)]
-pub struct Lead {
-    pub closing: bool,
+// A collection that waits for reports of sweeps: for how many, and the figures so far.
+#[derive(Clone, Copy, PartialEq, Eq, Debug)]
+pub struct Closing {
     pub awaited: u32,
-    pub wish: bool,
     pub figures: Figures,
 }
 
-impl Figures {
-    pub const NONE: Figures = Figures {
-        kept: 0,
-        messages: 0,
-        freed: 0,
-    };
-}
-
-impl Lead {
-    pub const NONE: Lead = Lead {
-        closing: false,
-        awaited: 0,
-        wish: false,
-        figures: Figures::NONE,
-    };
-}
-
-impl Round {
-    pub const NONE: Round = Round {
-        sent: 0,
-        answered: 0,
-        started: false,
-        shoves: 0,
-        ends: 0,
-        taken: 0,
-    };
+// What board 0 keeps as the lead: the collection that it is closing, and whether a further one is wished for.
+#[derive(Clone, Copy, PartialEq, Eq, Debug, Default)]
+pub struct Lead {
+    pub closing: Option<Closing>,
+    pub wish: bool,
 }
