@@ -5,15 +5,18 @@ use Rattle.theory.specs.declared.memory.Cell.{Cell}
 use Rattle.theory.specs.declared.memory.Cell.TheVariants.{Value}
 use Rattle.theory.specs.declared.memory.Entry.{Entry}
 use Rattle.theory.specs.declared.message.Held.{Held}
+use Rattle.theory.specs.declared.state.Figures.{Figures}
+use Rattle.theory.specs.declared.state.Lead.{Lead}
 use Rattle.theory.specs.declared.state.Settings.{Settings}
 use Rattle.theory.specs.Functions.{masked}
 use Rattle.theory.specs.Lists.{parts, below}
-use Rattle.theory.specs.SetUp.{fresh}
-use Rattle.theory.specs.State.{Board, no_board, no_entry}
-use Rattle.theory.proofs.Functions.{masked_in, masked_same}
+use Rattle.theory.specs.SetUp.{fresh, blank, started, no_settings}
+use Rattle.theory.specs.State.{State, Board, no_board, no_entry, no_lead, no_figures, with_boards}
+use Rattle.theory.specs.Wire.{WireState}
+use Rattle.theory.proofs.Functions.{masked_in, masked_same, masked_none}
 use Rattle.theory.proofs.Parts.{parts-replicate}
 use Rattle.boards.specs.declared.registers.Registers.{Registers}
-use Rattle.boards.specs.Models.{looks, shown, registers_of, Bare}
+use Rattle.boards.specs.Models.{looks, shown, seen, registers_of, Bare}
 
 pub own_credit : (credit boards : ℕ) → 1 ≤ boards → credit ≤ credit * boards
 own_credit credit boards h = omega (arith, mul-le credit 1 credit boards (omega arith) h, mul-one credit)
@@ -53,3 +56,12 @@ shown-fresh t r cs es fs hs m k few hm hk eb ec ee ef eh =
     ∙ ap (λ z. with_memory (replicate t.cells (Value 0)) z (fs b) (hs b) (fresh t)) e
     ∙ ap (λ z. with_memory (replicate t.cells (Value 0)) (replicate t.entries no_entry) z (hs b) (fresh t)) f
     ∙ ap (λ z. with_memory (replicate t.cells (Value 0)) (replicate t.entries no_entry) (below t.entries) z (fresh t)) h)
+
+module _ (t : Settings) (l : Lead) (f : Figures) (r : ℕ → Registers) (cs : ℕ → List Cell) (es : ℕ → List Entry) (fs : ℕ → List ℕ) (hs : ℕ → List Held)
+    (el : l ≡ no_lead) (ef : f ≡ no_figures) where
+  pub seen-blank : (wire : WireState) → t ≡ no_settings → seen t wire l f r cs es fs hs ≡ blank wire
+  unfolding shown
+  seen-blank wire et = rw (et, el, ef) (ap (λ z. with_boards z (blank wire)) (masked_none no_board _))
+
+  pub seen-started : (s : State) → shown t.boards r cs es fs hs ≡ masked t.boards no_board (λ _. fresh t) → seen t s.wire l f r cs es fs hs ≡ started t s
+  seen-started s e = rw (el, ef) (ap (λ z. with_boards z (started t s)) e)

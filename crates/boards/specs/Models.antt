@@ -1,7 +1,7 @@
 -- The state that a core stands for.
 use Rattle.std.specs.Prelude.{◌≡◌, ℕ, ◌*◌, ◌≤◌, false, List, [], length, replicate, slice_index_or}
 use Rattle.std.proofs.Common.{zero-le}
-use Rattle.queue.specs.QueuesOf.{queues, count_of, each_of, places_len}
+use Rattle.queue.specs.QueuesOf.{queues, places_len}
 use Rattle.theory.specs.declared.memory.Cell.{Cell}
 use Rattle.theory.specs.declared.memory.Cell.TheVariants.{Value}
 use Rattle.theory.specs.declared.memory.Entry.{Entry}
@@ -13,9 +13,9 @@ use Rattle.theory.specs.declared.state.Lead.{Lead}
 use Rattle.theory.specs.declared.state.Settings.{Settings}
 use Rattle.theory.specs.Functions.{masked}
 use Rattle.theory.specs.Lists.{parts}
-use Rattle.theory.specs.Net.{Net}
 use Rattle.theory.specs.SetUp.{Brought}
 use Rattle.theory.specs.State.{State, Board, no_board, no_round, change}
+use Rattle.theory.specs.Wire.{WireState}
 use Rattle.boards.specs.declared.inner.Core.{Core}
 use Rattle.boards.specs.declared.registers.Registers.{Registers}
 
@@ -52,26 +52,15 @@ looks r cs es fs hs b = look (r b) (cs b) (es b) (fs b) (hs b)
 unfoldable pub shown : ℕ → (ℕ → Registers) → (ℕ → List Cell) → (ℕ → List Entry) → (ℕ → List ℕ) → (ℕ → List Held) → ℕ → Board
 shown n r cs es fs hs = masked n no_board (looks r cs es fs hs)
 
-module _ (t : Settings) (width capacity : ℕ) (net : Net) (lead : Lead) (result : Figures) where
+module _ (t : Settings) (wire : WireState) (lead : Lead) (result : Figures) where
   abbrev pub seen : (ℕ → Registers) → (ℕ → List Cell) → (ℕ → List Entry) → (ℕ → List ℕ) → (ℕ → List Held) → State
   seen r cs es fs hs = record {
     settings = t;
     boards = shown t.boards r cs es fs hs;
-    width = width;
-    capacity = capacity;
-    net = net;
+    wire = wire;
     lead = lead;
     result = result;
   }
-
--- settings that are not too large
-abbrev pub Ranged : Settings → Type 0
-Ranged t = (t.boards ≤ 16) × (t.cells ≤ 4096) × (t.entries ≤ 512) × (t.credit ≤ 64)
-
--- what a set-up that is no refusal has found
-pub record InRange (t : Settings) : Type 0 where
-  pub one : 1 ≤ t.boards
-  pub ranged : Ranged t
 
 pub record Enough (b : Brought) (t : Settings) : Type 0 where
   pub cells : t.boards * t.cells ≤ b.cells
@@ -103,21 +92,14 @@ abbrev pub Bare : ℕ → ℕ → List Registers → ℕ → Type 0
 Bare credit most l b = look (registers_of l b) [] [] [] [] ≡ bare credit most
 
 module _ {W : Type 0} where
-  -- the lent slices have a part for each board
-  abbrev pub Sized : Core W → Type 0
-  Sized c = (length c.registers ≡ 16) × (c.settings.boards * c.settings.cells ≤ length c.cells.now) × (c.settings.boards * c.settings.entries ≤ length c.entries.now)
-
-  -- every board has a queue of its own, with a place for each entry, and one with a place for each board
-  abbrev pub Laid : Core W → Type 0
-  Laid c = (count_of c.free ≡ c.settings.boards) × (each_of c.free ≡ c.settings.entries) × (count_of c.held ≡ c.settings.boards) × (each_of c.held ≡ c.settings.boards)
-
-  pub record Sound (c : Core W) : Type 0 where
-    pub ranged : Ranged c.settings
-    pub sized : Sized c
-    pub laid : Laid c
-
   abbrev pub brought : Core W → Brought
   brought c = record { cells = length c.cells.now; entries = length c.entries.now; free = places_len c.free; held = places_len c.held }
+
+  abbrev pub cells_lent : Core W → List Cell
+  cells_lent c = c.cells.now
+
+  abbrev pub entries_lent : Core W → List Entry
+  entries_lent c = c.entries.now
 
   abbrev pub cells_of : Core W → ℕ → List Cell
   cells_of c = parts c.cells.now c.settings.cells
@@ -131,15 +113,14 @@ module _ {W : Type 0} where
   abbrev pub held_of : Core W → ℕ → List Held
   held_of c = queues c.held
 
-  module _ (width : W → ℕ) (capacity : W → ℕ) (waiting : W → Net) where
+  module _ (means : W → WireState) where
     abbrev pub model : Core W → State
     model c =
-        seen c.settings (width c.wire) (capacity c.wire) (waiting c.wire) c.lead c.result
+        seen c.settings (means c.wire) c.lead c.result
         (registers_of c.registers) (cells_of c) (entries_of c) (free_of c) (held_of c)
 
     -- q is p with board b changed by f
     pub record Changed (p q : Core W) (b : ℕ) (f : Board → Board) : Type 0 where
-      pub sound : Sound q
       pub settings : q.settings ≡ p.settings
       pub memory : brought q ≡ brought p
       pub after : model q ≡ change b f (model p)

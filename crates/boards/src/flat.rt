@@ -1,7 +1,9 @@
-// Reads and writes of one board's part of a flat slice: part b is the `each` items from b * each on.
-ghost use Rattle.std.specs.Prelude.{◌≡◌, ◌+◌, ◌*◌, ◌<◌, ◌≤◌, length, replicate, slice_index_or, slice_set};
+// One board's part of a flat slice: part b is the `each` items from b * each on.
+ghost use Rattle.std.specs.Prelude.{◌≡◌, ◌+◌, ◌*◌, ◌≤◌, length, slice_set};
 ghost use Rattle.theory.specs.Functions.{put};
 ghost use Rattle.theory.specs.Lists.{parts, wiped};
+
+use theory::memory::Cell;
 
 // A place past the end is no place, and nothing is written there.
 fn store<T: Copy>(part: &mut [T], at: usize, x: T)
@@ -12,28 +14,20 @@ fn store<T: Copy>(part: &mut [T], at: usize, x: T)
     }
 }
 
-fn wipe<T: Copy>(part: &mut [T], from: usize, count: usize, x: T)
+fn wipe(part: &mut [Cell], from: usize, count: usize, x: Cell)
     requires { from + count ≤ length part.old }
     ensures { part.new ≡ wiped part.old from count x }
 {
-    for i in 0..count {
-        part[from + i] = x;
-    }
+    part[from..from + count].fill(x);
 }
 
-pub(crate) fn fill<T: Copy>(xs: &mut [T], x: T)
-    ensures { xs.new ≡ replicate (length xs.old) x }
+pub(crate) fn part<T>(xs: &[T], each: u32, b: u32) -> &[T]
+    requires { b * each + each ≤ length xs.now }
+    ensures { result.now ≡ parts xs.now each b }
 {
-    let count = xs.len();
-    wipe(xs, 0, count, x);
-}
-
-pub(crate) fn read_in<T: Copy>(xs: &[T], each: u32, b: u32, at: u32) -> T
-    requires part { b * each + each ≤ length xs.now }
-    requires place { at < each }
-    ensures { (d : T) → result ≡ slice_index_or (parts xs.now each b) at d }
-{
-    xs[b as usize * each as usize + at as usize]
+    let start = b as usize * each as usize;
+    let end = start + each as usize;
+    &xs[start..end]
 }
 
 pub(crate) fn store_in<T: Copy>(xs: &mut [T], each: u32, b: u32, at: usize, x: T)
@@ -46,7 +40,7 @@ pub(crate) fn store_in<T: Copy>(xs: &mut [T], each: u32, b: u32, at: usize, x: T
     store(&mut xs[start..end], at, x);
 }
 
-pub(crate) fn wipe_in<T: Copy>(xs: &mut [T], each: u32, b: u32, from: u32, count: u32, x: T)
+pub(crate) fn wipe_in(xs: &mut [Cell], each: u32, b: u32, from: u32, count: u32, x: Cell)
     requires part { b * each + each ≤ length xs.old }
     requires places { from + count ≤ each }
     ensures room { length xs.new ≡ length xs.old }

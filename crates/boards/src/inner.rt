@@ -1,5 +1,7 @@
 // Up to 16 boards over lent slices, and the wire between them: board b has the cells from
 // b * settings.cells on, and the entries from b * settings.entries on.
+ghost use Rattle.boards.specs.Shapes.{Ranged, Sized, Laid};
+
 use crate::registers::Registers;
 use queue::queues::Queues;
 use theory::memory::{Cell, Entry};
@@ -8,17 +10,20 @@ use theory::state::{Figures, Lead, Settings};
 
 mod change;
 mod read;
-pub mod start;
+mod start;
 
 #[derive(Drop)]
 pub struct Core<'a, W> {
-    pub cells: &'a mut [Cell],
-    pub entries: &'a mut [Entry],
-    pub free: Queues<'a, u16>,
-    pub held: Queues<'a, Held>,
-    pub registers: [Registers; 16],
+    cells: &'a mut [Cell],
+    entries: &'a mut [Entry],
+    free: Queues<'a, u16>,
+    held: Queues<'a, Held>,
+    registers: [Registers; 16],
     pub settings: Settings,
     pub lead: Lead,
     pub result: Figures,
     pub wire: W,
+    ghost ranged: { Ranged settings },
+    ghost sized: { Sized settings registers cells.now entries.now },
+    ghost laid: { Laid settings free held },
 }

@@ -1,5 +1,5 @@
 // What a board keeps beside its memory.
-ghost use Rattle.std.specs.Prelude.{◌≡◌, ℕ, ◌<◌, ◌≤◌, length};
+ghost use Rattle.std.specs.Prelude.{◌≡◌, ℕ, ◌<◌, ◌≤◌, length, slice_set};
 ghost use Rattle.boards.specs.Models.{Bare};
 
 use purse::Purse;
@@ -18,6 +18,17 @@ pub struct Registers {
     pub round: Round,
 }
 
+impl Registers {
+    // A slot past the last is no slot, and nothing is written there.
+    pub fn put_slot(&mut self, slot: u32, v: Cell)
+        ensures { self.new ≡ record self.old { slots = slice_set self.old.slots slot v } }
+    {
+        if slot < 8 {
+            self.slots[slot as usize] = v;
+        }
+    }
+}
+
 // Sixteen boards with nothing on them, each with so much credit.
 pub fn fresh_registers(credit: u32, most: u32) -> [Registers; 16]
     requires { credit ≤ most }
@@ -32,6 +43,6 @@ pub fn fresh_registers(credit: u32, most: u32) -> [Registers; 16]
         mode: Mode::Run,
         requested: false,
         purse: Purse::new(credit, most),
-        round: Round::NONE,
+        round: Round::default(),
     }; 16]
 }

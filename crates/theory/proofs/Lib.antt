@@ -1,3 +1,4 @@
+pub mod Defaults
 pub mod Functions
 pub mod Makes
 pub mod Nets

@@ -47,10 +47,13 @@ started t s = record {
   result = no_figures;
 }
 
+abbrev pub no_settings : Settings
+no_settings = record { boards = 0; cells = 0; entries = 0; credit = 0 }
+
 -- before set-up: no board at all
 abbrev pub blank : WireState → State
 blank wire = record {
-  settings = record { boards = 0; cells = 0; entries = 0; credit = 0 };
+  settings = no_settings;
   boards = λ _. no_board;
   wire = wire;
   lead = no_lead;

@@ -1,50 +1,41 @@
-// The memory that was brought, and every board's set-up.
-ghost use Rattle.std.specs.Prelude.{◌≡◌, OnOk};
-ghost use Rattle.theory.specs.SetUp.{started, ranges, memory_enough, wire_enough};
-ghost use Rattle.boards.specs.Models.{model, brought, Enough, InRange, Sound};
+// The memory and the wire that were brought, and every board's set-up.
+ghost use Rattle.std.specs.Prelude.{◌≡◌, length, OnOk};
+ghost use Rattle.theory.specs.SetUp.{blank, started, memory_enough, wire_enough};
+ghost use Rattle.boards.specs.Models.{model, brought, cells_lent, entries_lent, Enough};
 
 use super::Core;
-use crate::flat::fill;
+use crate::memory::Memory;
 use crate::numbering::number_all;
+use crate::ranged::RangedSettings;
 use crate::registers::fresh_registers;
+use queue::queues::Queues;
 use theory::fault::PackFault;
 use theory::memory::{Cell, Entry};
 use theory::state::{Figures, Lead, Settings};
-use wire::wire::Wire;
+use wires::Wire;
 
-// Whether the settings are in their ranges.
-pub fn check_ranges(t: Settings) -> Result<(), PackFault>
-    ensures answer { result ≡ ranges t }
-    ensures range { OnOk result (InRange t) }
-{
-    if t.boards < 1 {
-        return Err(PackFault::Setting);
+impl<'a, W: Wire> Core<'a, W> {
+    // No board yet.
+    pub fn over(memory: Memory<'a>, wire: W) -> Core<'a, W>
+        ensures state { model W.means result ≡ blank (W.means wire) }
+        ensures cells { cells_lent result ≡ memory.entry.cells.now }
+        ensures entries { entries_lent result ≡ memory.entry.entries.now }
+        ensures wire { result.wire ≡ wire }
+        ensures brought { brought result ≡ record { cells = length memory.entry.cells.now; entries = length memory.entry.entries.now; free = length memory.entry.free.now; held = length memory.entry.held.now } }
+    {
+        Core {
+            cells: memory.cells,
+            entries: memory.entries,
+            free: Queues::over(memory.free),
+            held: Queues::over(memory.held),
+            registers: fresh_registers(0, 0),
+            settings: Settings::default(),
+            lead: Lead::default(),
+            result: Figures::default(),
+            wire,
+        }
     }
-    if t.boards > 16 {
-        return Err(PackFault::Setting);
-    }
-    if t.cells < 2 {
-        return Err(PackFault::Setting);
-    }
-    if t.cells > 4096 {
-        return Err(PackFault::Setting);
-    }
-    if t.entries < 1 {
-        return Err(PackFault::Setting);
-    }
-    if t.entries > 512 {
-        return Err(PackFault::Setting);
-    }
-    if t.credit < 1 {
-        return Err(PackFault::Setting);
-    }
-    if t.credit > 64 {
-        return Err(PackFault::Setting);
-    }
-    Ok(())
-}
 
-impl<W: Wire> Core<'_, W> {
     // Whether the memory that was brought is enough.
     pub fn check_memory(&self, t: Settings) -> Result<(), PackFault>
         ensures answer { result ≡ memory_enough (brought self.now) t }
@@ -68,15 +59,15 @@ impl<W: Wire> Core<'_, W> {
     }
 
     // Whether the wire is enough, and carries nothing yet.
-    pub fn check_wire(&self, t: Settings) -> Result<(), PackFault>
-        requires { InRange t }
-        ensures { result ≡ wire_enough (W.width self.now.wire) (W.capacity self.now.wire) (W.waiting self.now.wire) t }
+    pub fn check_wire(&self, ranged: RangedSettings) -> Result<(), PackFault>
+        ensures { result ≡ wire_enough (W.means self.now.wire) ranged.settings }
     {
+        let t = ranged.settings;
         if self.wire.boards() < t.boards {
             return Err(PackFault::SmallWire);
         }
         let needed = t.boards * (t.credit + 1) + (t.boards - 1) * (t.boards + 3);
-        if self.wire.places() < needed as usize {
+        if self.wire.capacity() < needed as usize {
             return Err(PackFault::SmallWire);
         }
         if self.wire.total() > 0 {
@@ -86,20 +77,19 @@ impl<W: Wire> Core<'_, W> {
     }
 
     // Sets every board up with nothing on it.
-    pub fn start(&mut self, t: Settings)
-        requires range { InRange t }
-        requires memory { Enough (brought self.old) t }
-        ensures sound { Sound self.new }
-        ensures after { model W.width W.capacity W.waiting self.new ≡ started t (model W.width W.capacity W.waiting self.old) }
+    pub fn start(&mut self, ranged: RangedSettings)
+        requires { Enough (brought self.old) ranged.settings }
+        ensures after { model W.means self.new ≡ started ranged.settings (model W.means self.old) }
         ensures brought { brought self.new ≡ brought self.old }
     {
-        fill(self.cells, Cell::Value(0));
-        fill(self.entries, Entry::FREE);
+        let t = ranged.settings;
+        self.cells.fill(Cell::Value(0));
+        self.entries.fill(Entry::FREE);
         number_all(&mut self.free, t.boards as usize, t.entries as u16);
         let _ = self.held.lay_out(t.boards as usize, t.boards as usize);
         self.registers = fresh_registers(t.credit, t.credit * t.boards);
         self.settings = t;
-        self.lead = Lead::NONE;
-        self.result = Figures::NONE;
+        self.lead = Lead::default();
+        self.result = Figures::default();
     }
 }

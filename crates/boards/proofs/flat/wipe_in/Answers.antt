@@ -6,7 +6,7 @@ use Rattle.boards.proofs.flat.wipe_in.Goals as goal
 
 pub returns : goal.returns
 unfolding parts
-returns g c =
+returns c =
     let xs = c.args.xs.now in
     let each = c.args.each in
     let b = c.args.b in

@@ -1,4 +1,4 @@
-use Rattle.std.proofs.Common.{refl, ◌∙◌}
+use Rattle.std.proofs.Common.{refl}
 use Rattle.queue.specs.QueuesOf.{queues}
 use Rattle.theory.specs.Lists.{tail}
 use Rattle.boards.specs.Models.{registers_of, cells_of, entries_of, free_of, held_of}
@@ -8,14 +8,11 @@ use Rattle.boards.proofs.inner.Core.take_free.Goals as goal
 
 pub returns : goal.returns
 returns g c =
-    let w = g.W.Wire in
     let p = c.args.self.now in
-    let s = c.requires.sound in
     record {
-      sound = record { ranged = s.ranged; sized = s.sized; laid = (c.pop.ensures.count ∙ s.laid.0, c.pop.ensures.each ∙ s.laid.1, s.laid.2, s.laid.3) };
       settings = refl {a = p.settings};
       memory = same_sizes _ _ _ _ _ _ _ _ refl refl c.pop.ensures.places refl;
-      after = free_changed p.settings (w.width p.wire) (w.capacity p.wire) (w.waiting p.wire) p.lead p.result c.args.b c.requires.board
+      after = free_changed p.settings (g.W.Wire.means p.wire) p.lead p.result c.args.b c.requires
           (registers_of p.registers) (cells_of p) (entries_of p) (free_of p) (held_of p)
           (queues c.pop.new.self) tail c.pop.ensures.after;
     }

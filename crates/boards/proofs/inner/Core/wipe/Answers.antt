@@ -1,4 +1,4 @@
-use Rattle.std.proofs.Common.{refl, arith}
+use Rattle.std.proofs.Common.{refl}
 use Rattle.theory.specs.declared.memory.Cell.TheVariants.{Value}
 use Rattle.theory.specs.Lists.{parts, wiped}
 use Rattle.boards.specs.Models.{registers_of, cells_of, entries_of, free_of, held_of}
@@ -8,20 +8,15 @@ use Rattle.boards.proofs.Sizes.{same_sizes}
 use Rattle.boards.proofs.inner.Core.wipe.Goals as goal
 
 pub wipe_in-requires : goal.wipe_in-requires
-wipe_in-requires g c =
-    let w = g.W.Wire in
-    record { part = cells_end w.width w.capacity w.waiting c.args.self.now c.args.b c.requires.board c.requires.sound; places = c.requires.places }
+wipe_in-requires g c = record { part = cells_end g.W.Wire.means c.args.self.now c.args.b c.requires.board; places = c.requires.places }
 
 pub returns : goal.returns
 returns g c =
-    let w = g.W.Wire in
     let p = c.args.self.now in
-    let s = c.requires.sound.sized in
     record {
-      sound = record { ranged = c.requires.sound.ranged; sized = (s.0, omega (arith, s.1, c.wipe_in.ensures.room), s.2); laid = c.requires.sound.laid };
       settings = refl {a = p.settings};
       memory = same_sizes _ _ _ _ _ _ _ _ c.wipe_in.ensures.room refl refl refl;
-      after = cells_changed p.settings (w.width p.wire) (w.capacity p.wire) (w.waiting p.wire) p.lead p.result c.args.b c.requires.board
+      after = cells_changed p.settings (g.W.Wire.means p.wire) p.lead p.result c.args.b c.requires.board
           (registers_of p.registers) (cells_of p) (entries_of p) (free_of p) (held_of p)
           (parts c.wipe_in.new.xs p.settings.cells) (λ l. wiped l c.args.from c.args.count (Value 0)) c.wipe_in.ensures.after;
     }

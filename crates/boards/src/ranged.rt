@@ -1,0 +1,12 @@
+// Settings that are in their ranges.
+ghost use Rattle.boards.specs.Shapes.{InRange};
+
+use theory::state::Settings;
+
+mod check;
+
+#[derive(Clone, Copy)]
+pub struct RangedSettings {
+    pub(crate) settings: Settings,
+    ghost in_range: { InRange settings },
+}
