@@ -2,7 +2,7 @@
 ghost use Rattle.std.specs.Prelude.{◌≡◌, slice_index_or};
 ghost use Rattle.std.specs.List.{slice_get};
 ghost use Rattle.theory.specs.declared.memory.Cell.TheVariants.{Value};
-ghost use Rattle.theory.specs.Answer.{collecting};
+ghost use Rattle.theory.specs.Answer.{collecting, ready};
 ghost use Rattle.theory.specs.Lists.{head};
 ghost use Rattle.theory.specs.State.{no_entry};
 ghost use Rattle.boards.specs.Models.{Shows};
@@ -10,6 +10,7 @@ ghost use Rattle.boards.specs.Views.{viewed};
 
 use crate::registers::Registers;
 use queue::queues::Queues;
+use theory::fault::PackFault;
 use theory::memory::{Cell, Entry, Mode};
 use theory::message::Held;
 
@@ -56,6 +57,19 @@ impl BoardView<'_, '_> {
         ensures { result ≡ collecting (viewed self.now).mode }
     {
         matches!(self.registers.mode, Mode::Mark | Mode::Done)
+    }
+
+    // Whether calls of the board are taken: it is in no collection, and waits for no answer.
+    pub fn ready(&self) -> Result<(), PackFault>
+        ensures { result ≡ ready (viewed self.now) }
+    {
+        if self.collecting() {
+            return Err(PackFault::Collecting);
+        }
+        if self.waits() {
+            return Err(PackFault::Waiting);
+        }
+        Ok(())
     }
 
     // A cell of the board's own part; past its end there is none, and a value 0 is read.

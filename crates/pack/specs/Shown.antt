@@ -1,9 +1,9 @@
 -- The state that a pack stands for, and what can be seen of it.
 use Rattle.std.specs.Prelude.{ℕ, cond, List, Some, None, Option, nat_lt, slice_index_or}
 use Rattle.std.specs.List.{slice_get}
-use Rattle.theory.specs.Net.{Net}
 use Rattle.theory.specs.SetUp.{Brought}
 use Rattle.theory.specs.State.{State, Board}
+use Rattle.theory.specs.Wire.{WireState}
 use Rattle.boards.specs.Models.{model, brought}
 use Rattle.pack.specs.declared.pack.Pack.{Pack}
 
@@ -11,9 +11,9 @@ use Rattle.pack.specs.declared.pack.Pack.{Pack}
 abbrev pub memory : {W T : Type 0} → Pack W T → Brought
 memory p = brought p.core
 
-module _ {W T : Type 0} (width capacity : W → ℕ) (waiting : W → Net) where
+module _ {W T : Type 0} (means : W → WireState) where
   abbrev pub state : Pack W T → State
-  state p = model width capacity waiting p.core
+  state p = model means p.core
 
 -- an item of a board's list, of which there are `most`
 abbrev pub item : {A : Type 0} → (Board → List A) → ℕ → A → ℕ → ℕ → State → Option A

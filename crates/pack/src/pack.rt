@@ -1,5 +1,3 @@
-ghost use Rattle.boards.specs.Models.{Ranged, Sized, Laid};
-
 use boards::inner::Core;
 
 mod calls;
@@ -11,7 +9,4 @@ mod start;
 pub struct Pack<'a, W, T> {
     core: Core<'a, W>,
     tally: T,
-    ghost ranged: { Ranged core.settings },
-    ghost sized: { Sized core },
-    ghost laid: { Laid core },
 }

@@ -1,5 +1,5 @@
 -- What the defaults of the shared values are, field by field.
-use Rattle.std.proofs.Common.{◌≡◌, false, None, refl, rules}
+use Rattle.std.proofs.Common.{◌≡◌, false, None, rules}
 use Rattle.theory.specs.declared.state.Figures.{Figures}
 use Rattle.theory.specs.declared.state.Lead.{Lead}
 use Rattle.theory.specs.declared.state.Settings.{Settings}

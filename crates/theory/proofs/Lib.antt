@@ -1,6 +1,5 @@
 pub mod Defaults
 pub mod Functions
-pub mod Makes
 pub mod Nets
 pub mod Parts
 pub mod Rings

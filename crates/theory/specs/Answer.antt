@@ -1,9 +1,10 @@
 -- How a step ends: the state, and the answer.
-use Rattle.std.specs.Prelude.{Bool, true, false, Ok, Err, Result}
+use Rattle.std.specs.Prelude.{Bool, true, false, cond, Ok, Err, Result}
 use Rattle.theory.specs.declared.fault.PackFault.{PackFault}
+use Rattle.theory.specs.declared.fault.PackFault.TheVariants.{Collecting, Waiting}
 use Rattle.theory.specs.declared.memory.Mode.{Mode}
 use Rattle.theory.specs.declared.memory.Mode.TheVariants.{Run, Mark, Done}
-use Rattle.theory.specs.State.{State}
+use Rattle.theory.specs.State.{State, Board}
 
 abbrev pub Answer : Type 0
 Answer = Result (Unit {0}) PackFault
@@ -20,3 +21,11 @@ abbrev pub collecting : Mode → Bool
 collecting Run = false
 collecting Mark = true
 collecting Done = true
+
+-- a fault where the test holds, and else what comes next
+abbrev pub fault_if : Bool → PackFault → Answer → Answer
+fault_if test e next = cond test (Err e) next
+
+-- whether calls of a board are taken: not in a collection, and not while it waits
+abbrev pub ready : Board → Answer
+ready x = fault_if (collecting x.mode) Collecting (fault_if x.waits Waiting (Ok tt))

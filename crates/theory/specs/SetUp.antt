@@ -1,12 +1,11 @@
 -- Set-up: a pack with nothing in it, over the memory and the wire that were brought.
-use Rattle.std.specs.Prelude.{ℕ, ◌*◌, Bool, false, cond, [], replicate, Ok, Err, nat_lt}
-use Rattle.theory.specs.declared.fault.PackFault.{PackFault}
+use Rattle.std.specs.Prelude.{ℕ, ◌*◌, false, [], replicate, Ok, Err, nat_lt}
 use Rattle.theory.specs.declared.fault.PackFault.TheVariants.{Setting, Memory, SmallWire, BusyWire}
 use Rattle.theory.specs.declared.memory.Cell.TheVariants.{Value}
 use Rattle.theory.specs.declared.memory.Mode.TheVariants.{Run}
 use Rattle.theory.specs.declared.memory.Outcome.TheVariants.{Done}
 use Rattle.theory.specs.declared.state.Settings.{Settings}
-use Rattle.theory.specs.Answer.{Answer, accepted, refused}
+use Rattle.theory.specs.Answer.{Answer, accepted, refused, fault_if}
 use Rattle.theory.specs.Functions.{masked}
 use Rattle.theory.specs.Lists.{below}
 use Rattle.theory.specs.Net.{needed}
@@ -59,10 +58,6 @@ blank wire = record {
   lead = no_lead;
   result = no_figures;
 }
-
--- a fault where the test holds, and else what comes next
-abbrev pub fault_if : Bool → PackFault → Answer → Answer
-fault_if test e next = cond test (Err e) next
 
 -- 1 to 16 boards, 2 to 4096 cells, 1 to 512 entries and a credit of 1 to 64
 abbrev pub ranges : Settings → Answer

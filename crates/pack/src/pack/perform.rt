@@ -7,12 +7,12 @@ use super::Pack;
 use tally::Tally;
 use theory::call::Call;
 use theory::fault::PackFault;
-use wire::wire::Wire;
+use wires::Wire;
 
 impl<W: Wire, T: Tally> Pack<'_, W, T> {
     // Performs a call, and answers how many deliveries it made.
     pub fn perform(&mut self, call: Call) -> Result<u32, PackFault>
-        ensures does_its_step { (state W.width W.capacity W.waiting self.new, result) ≡ step call (state W.width W.capacity W.waiting self.old) }
+        ensures does_its_step { (state W.means self.new, result) ≡ step call (state W.means self.old) }
         ensures keeps_its_memory { memory self.new ≡ memory self.old }
         ensures refused_leaves_all_as_it_was { OnErr result (self.new ≡ self.old) }
     {

@@ -10,12 +10,12 @@ use boards::registers::Registers;
 use tally::Tally;
 use theory::memory::{Cell, Entry};
 use theory::state::Figures;
-use wire::wire::Wire;
+use wires::Wire;
 
 impl<W: Wire, T: Tally> Pack<'_, W, T> {
     // The figures of the last collection, or zeros.
     pub fn result(&self) -> Figures
-        ensures { result ≡ (state W.width W.capacity W.waiting self.now).result }
+        ensures { result ≡ (state W.means self.now).result }
     {
         self.core.result
     }
@@ -23,46 +23,38 @@ impl<W: Wire, T: Tally> Pack<'_, W, T> {
     // All that a board keeps beside its cells, entries and queues: its slots, top, mode, outcome, purse and
     // counts, and whether it waits.
     pub fn board(&self, board: u32) -> Option<Registers>
-        ensures { MatchOption result ((state W.width W.capacity W.waiting self.now).settings.boards ≤ board)
-            (λ x. (board < (state W.width W.capacity W.waiting self.now).settings.boards) × Shows x ((state W.width W.capacity W.waiting self.now).boards board)) }
+        ensures { MatchOption result ((state W.means self.now).settings.boards ≤ board)
+            (λ x. (board < (state W.means self.now).settings.boards) × Shows x ((state W.means self.now).boards board)) }
     {
-        if board >= self.core.settings.boards {
-            return None;
-        }
-        Some(self.core.registers(board))
+        Some(self.core.board(board)?.registers())
     }
 
     pub fn cell(&self, board: u32, at: u32) -> Option<Cell>
-        ensures { result ≡ item (λ x. x.cells) (state W.width W.capacity W.waiting self.now).settings.cells (Value 0) board at (state W.width W.capacity W.waiting self.now) }
+        ensures { result ≡ item (λ x. x.cells) (state W.means self.now).settings.cells (Value 0) board at (state W.means self.now) }
     {
-        if board >= self.core.settings.boards {
-            return None;
+        let x = self.core.board(board)?;
+        if at < self.core.settings.cells {
+            Some(x.cell(at))
+        } else {
+            None
         }
-        if at >= self.core.settings.cells {
-            return None;
-        }
-        Some(self.core.cell(board, at))
     }
 
     pub fn entry(&self, board: u32, entry: u32) -> Option<Entry>
-        ensures { result ≡ item (λ x. x.entries) (state W.width W.capacity W.waiting self.now).settings.entries no_entry board entry (state W.width W.capacity W.waiting self.now) }
+        ensures { result ≡ item (λ x. x.entries) (state W.means self.now).settings.entries no_entry board entry (state W.means self.now) }
     {
-        if board >= self.core.settings.boards {
-            return None;
+        let x = self.core.board(board)?;
+        if entry < self.core.settings.entries {
+            Some(x.entry(entry))
+        } else {
+            None
         }
-        if entry >= self.core.settings.entries {
-            return None;
-        }
-        Some(self.core.entry(board, entry))
     }
 
     // The number of a free entry, by its place in the queue of those.
     pub fn free(&self, board: u32, i: usize) -> Option<u16>
-        ensures { result ≡ free_item board i (state W.width W.capacity W.waiting self.now) }
+        ensures { result ≡ free_item board i (state W.means self.now) }
     {
-        if board >= self.core.settings.boards {
-            return None;
-        }
-        self.core.free_at(board, i)
+        self.core.board(board)?.free_at(i)
     }
 }
