@@ -6,7 +6,7 @@ use crate::Chains;
 use crate::table::FREE;
 use theory::fault::WireFault;
 use theory::message::Message;
-use wires::Wire;
+use wire::Wire;
 
 // The number of a pair's chain.
 fn chain_of(from: u32, to: u32) -> usize

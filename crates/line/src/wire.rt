@@ -4,7 +4,7 @@ ghost use Rattle.line.specs.WireStates.{wire_state};
 use crate::Line;
 use theory::fault::WireFault;
 use theory::message::Message;
-use wires::Wire;
+use wire::Wire;
 
 impl Wire for Line<'_> {
     ghost means = { wire_state };
