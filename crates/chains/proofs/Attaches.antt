@@ -6,14 +6,13 @@ use Rattle.std.proofs.lemmas.Bool.{cases_eq, cases_lt}
 use Rattle.theory.specs.declared.message.Message.{Message}
 use Rattle.chains.specs.declared.Link.{Link}
 use Rattle.chains.specs.declared.table.Chain.{Chain}
-use Rattle.chains.specs.declared.table.Table.{Table}
 use Rattle.chains.specs.Spots.{spot, listed}
 use Rattle.chains.specs.Changes.{Loose, Attached}
-use Rattle.chains.specs.Tables.{no_chain, no_link, chain_of, len_of, place_of, places, next_in, message_in, Linked, Meeting}
+use Rattle.chains.specs.Linkages.{Linkage, linkage_of, no_chain, no_link, chain_of, len_of, place_of, places, next_in, message_in, Linked, Meeting}
 use Rattle.chains.proofs.Spots.{spot_start, spot-step, spot_same, listed_last, listed_same}
 
 -- chain i has p behind its places, with the message m there, and all else that is in chains is as it was
-record Longer (s t : Table) (i p : ℕ) (m : Message) : Type 0 where
+record Longer (s t : Linkage) (i p : ℕ) (m : Message) : Type 0 where
   chained : length t.chains ≡ 257
   room : places t ≡ places s
   len_here : len_of t i ≡ len_of s i + 1
@@ -22,10 +21,10 @@ record Longer (s t : Table) (i p : ℕ) (m : Message) : Type 0 where
   last_else : (j : ℕ) → (j ≡ i → ⊥) → (chain_of t j).last ≡ (chain_of s j).last
   kept : (j k : ℕ) → k < len_of s j → place_of t j k ≡ place_of s j k
   new : place_of t i (len_of s i) ≡ p
-  text : message_in t.links.now p ≡ m
-  texts : (q : ℕ) → (q ≡ p → ⊥) → message_in t.links.now q ≡ message_in s.links.now q
+  text : message_in t.links p ≡ m
+  texts : (q : ℕ) → (q ≡ p → ⊥) → message_in t.links q ≡ message_in s.links q
 
-module _ (s t : Table) (i p : ℕ) (m : Message) (ok : Linked s) (loose : Loose s p) (more : Longer s t i p m) where
+module _ (s t : Linkage) (i p : ℕ) (m : Message) (ok : Linked s) (loose : Loose s p) (more : Longer s t i p m) where
   -- a spot is an old one, or the new one
   side : (j k : ℕ) → k < len_of t j → (k < len_of s j) ⊎ ((j ≡ i) × (k ≡ len_of s i))
   side j k l = go (cases_lt k (len_of s j)) (cases_eq j i)
@@ -73,22 +72,21 @@ module _ (s t : Table) (i p : ℕ) (m : Message) (ok : Linked s) (loose : Loose 
           more.last_else j ne ∙ ok.ends j k l ∙ sym (more.kept j k (omega arith))
 
   -- the messages that were there
-  same : (j k : ℕ) → k < len_of s j → message_in t.links.now (place_of t j k) ≡ message_in s.links.now (place_of s j k)
-  same j k l = ap (message_in t.links.now) (more.kept j k l) ∙ more.texts (place_of s j k) (loose.alone j k l)
+  same : (j k : ℕ) → k < len_of s j → message_in t.links (place_of t j k) ≡ message_in s.links (place_of s j k)
+  same j k l = ap (message_in t.links) (more.kept j k l) ∙ more.texts (place_of s j k) (loose.alone j k l)
 
   longer : Attached s t i m
   longer = record {
-    linked = linked;
     room = more.room;
     last =
-        ap (listed (λ k. message_in t.links.now (place_of t i k))) more.len_here
-        ∙ listed_last (λ k. message_in t.links.now (place_of t i k)) (len_of s i)
+        ap (listed (λ k. message_in t.links (place_of t i k))) more.len_here
+        ∙ listed_last (λ k. message_in t.links (place_of t i k)) (len_of s i)
         ∙ ap₂ (λ xs x. xs ++ x ∷ [])
-        (listed_same (λ k. message_in t.links.now (place_of t i k)) (λ k. message_in s.links.now (place_of s i k)) (len_of s i) (same i))
-        (ap (message_in t.links.now) more.new ∙ more.text);
+        (listed_same (λ k. message_in t.links (place_of t i k)) (λ k. message_in s.links (place_of s i k)) (len_of s i) (same i))
+        (ap (message_in t.links) more.new ∙ more.text);
     others = λ j ne.
-        ap (listed (λ k. message_in t.links.now (place_of t j k))) (more.len_else j ne)
-        ∙ listed_same (λ k. message_in t.links.now (place_of t j k)) (λ k. message_in s.links.now (place_of s j k)) (len_of s j) (same j);
+        ap (listed (λ k. message_in t.links (place_of t j k))) (more.len_else j ne)
+        ∙ listed_same (λ k. message_in t.links (place_of t j k)) (λ k. message_in s.links (place_of s j k)) (len_of s j) (same j);
   }
 
 -- what a write of one place leaves of a field that it does not change
@@ -100,18 +98,18 @@ field_kept f links p x l e q = go (cases_eq q p)
     go (inl y) = ap (λ h. f (get_or (set links p x) h no_link)) y ∙ ap f (get_or-set_same links p x no_link l) ∙ e ∙ ap (λ h. f (get_or links h no_link)) (sym y)
     go (inr ne) = ap f (get_or-set_other links p q x no_link ne)
 
-pub last_within : (s : Table) (i : ℕ) → Linked s → (len_of s i ≡ 0 → ⊥) → (chain_of s i).last < places s
+pub last_within : (s : Linkage) (i : ℕ) → Linked s → (len_of s i ≡ 0 → ⊥) → (chain_of s i).last < places s
 last_within s i ok some =
     omega (arith, ok.ends i (len_of s i - 1) (omega (arith, some)), ok.within i (len_of s i - 1) (omega (arith, some)))
 
-pub last_within_filled : (s : Table) (i p : ℕ) (m : Message) → Linked s → (len_of s i ≡ 0 → ⊥)
-    → (chain_of s i).last < length (set s.links.now p (record { message = m; next = next_in s.links.now p }))
+pub last_within_filled : (s : Linkage) (i p : ℕ) (m : Message) → Linked s → (len_of s i ≡ 0 → ⊥)
+    → (chain_of s i).last < length (set s.links p (record { message = m; next = next_in s.links p }))
 last_within_filled s i p m ok some =
-    omega (arith, last_within s i ok some, length-set s.links.now p (record { message = m; next = next_in s.links.now p }))
+    omega (arith, last_within s i ok some, length-set s.links p (record { message = m; next = next_in s.links p }))
 
-module _ (s t : Table) (i p : ℕ) (m : Message) (ok : Linked s) (li : i < 257) (loose : Loose s p) where
+module _ (s t : Linkage) (i p : ℕ) (m : Message) (ok : Linked s) (li : i < 257) (loose : Loose s p) where
   abbrev xs : List Link
-  xs = s.links.now
+  xs = s.links
 
   -- with the message at its place
   abbrev filled : List Link
@@ -143,10 +141,10 @@ module _ (s t : Table) (i p : ℕ) (m : Message) (ok : Linked s) (li : i < 257) 
   one = record { first = p; last = p; len = 1 }
 
   -- an empty chain
-  pub attached_first : len_of s i ≡ 0 → t.links.now ≡ set s.links.now p (record { message = m; next = next_in s.links.now p })
-      → t.chains ≡ set s.chains i (record { first = p; last = p; len = 1 }) → Attached s t i m
-  attached_first none links chains =
-      longer s t i p m ok loose (record {
+  more_first : len_of s i ≡ 0 → t.links ≡ set s.links p (record { message = m; next = next_in s.links p })
+      → t.chains ≡ set s.chains i (record { first = p; last = p; len = 1 }) → Longer s t i p m
+  more_first none links chains =
+      record {
         chained = count one chains;
         room = ap length links ∙ length_filled;
         len_here = let a : len_of t i ≡ 1 = ap (λ c. c.len) (here one chains) in omega arith;
@@ -154,10 +152,10 @@ module _ (s t : Table) (i p : ℕ) (m : Message) (ok : Linked s) (li : i < 257) 
         last_here = ap (λ c. c.last) (here one chains);
         last_else = λ j ne. ap (λ c. c.last) (else one chains j ne);
         kept = λ j k l. was j k l (cases_eq j i);
-        new = ap₂ (λ c k. spot (next_in t.links.now) c.first k) (here one chains) none ∙ spot_start (next_in t.links.now) p;
+        new = ap₂ (λ c k. spot (next_in t.links) c.first k) (here one chains) none ∙ spot_start (next_in t.links) p;
         text = ap (λ ls. message_in ls p) links ∙ text_filled;
         texts = λ q ne. ap (λ ls. message_in ls q) links ∙ texts_filled q ne;
-      })
+      }
     where
       was : (j k : ℕ) → k < len_of s j → (j ≡ i) ⊎ (j ≡ i → ⊥) → place_of t j k ≡ place_of s j k
       was j k l (inl e) = let a : len_of s j ≡ len_of s i = ap (len_of s) e in absurd (omega arith)
@@ -197,7 +195,7 @@ module _ (s t : Table) (i p : ℕ) (m : Message) (ok : Linked s) (li : i < 257) 
     abbrev long : Chain
     long = record { first = (chain_of s i).first; last = p; len = len_of s i + 1 }
 
-    module _ (links : t.links.now ≡ tied) (chains : t.chains ≡ set s.chains i long) where
+    module _ (links : t.links ≡ tied) (chains : t.chains ≡ set s.chains i long) where
       first_same : (j : ℕ) → (chain_of t j).first ≡ (chain_of s j).first
       first_same j = go (cases_eq j i)
         where
@@ -214,13 +212,13 @@ module _ (s t : Table) (i p : ℕ) (m : Message) (ok : Linked s) (li : i < 257) 
       new_place =
           let e : len_of s i ≡ (len_of s i - 1) + 1 = omega (arith, some) in
           ap (place_of t i) e
-          ∙ spot-step (next_in t.links.now) (chain_of t i).first (len_of s i - 1)
+          ∙ spot-step (next_in t.links) (chain_of t i).first (len_of s i - 1)
           ∙ ap₂ (λ ls q. next_in ls q) links (was i (len_of s i - 1) (omega (arith, some)) ∙ sym end_is)
           ∙ next_end
 
-      pub attached_next : Attached s t i m
-      attached_next =
-          longer s t i p m ok loose (record {
+      more_next : Longer s t i p m
+      more_next =
+          record {
             chained = count long chains;
             room = ap length links ∙ length-set filled end (record { message = message_in filled end; next = p }) ∙ length_filled;
             len_here = ap (λ c. c.len) (here long chains);
@@ -231,4 +229,50 @@ module _ (s t : Table) (i p : ℕ) (m : Message) (ok : Linked s) (li : i < 257) 
             new = new_place;
             text = ap (λ ls. message_in ls p) links ∙ text_tied p ∙ text_filled;
             texts = λ q ne. ap (λ ls. message_in ls q) links ∙ text_tied q ∙ texts_filled q ne;
-          })
+          }
+
+-- what an attachment writes, in the order of its writes
+abbrev pub with_message : Linkage → ℕ → Message → Linkage
+with_message s p m = linkage_of (set s.links p (record { message = m; next = next_in s.links p })) s.chains
+
+abbrev pub begun : Linkage → ℕ → ℕ → Message → Linkage
+begun s i p m = linkage_of (with_message s p m).links (set s.chains i (record { first = p; last = p; len = 1 }))
+
+abbrev pub extended : Linkage → ℕ → ℕ → Message → Linkage
+extended s i p m =
+    let xs = (with_message s p m).links in
+    let end = (chain_of s i).last in
+    linkage_of (set xs end (record { message = message_in xs end; next = p })) (set s.chains i (record { first = (chain_of s i).first; last = p; len = len_of s i + 1 }))
+
+module _ (s : Linkage) (i p : ℕ) (m : Message) (ok : Linked s) (li : i < 257) (loose : Loose s p) where
+  -- a message alone changes no chain
+  pub linked_with_message : Linked (with_message s p m)
+  linked_with_message = record {
+    chained = ok.chained;
+    apart = λ w. ok.apart (record { i = w.i; j = w.j; k = w.k; l = w.l; in_i = w.in_i; in_j = w.in_j; meet = sym (same w.i w.k) ∙ w.meet ∙ same w.j w.l });
+    within = λ j k l. omega (arith, same j k, ok.within j k l, length_filled s s i p m ok li loose);
+    ends = λ j k e. ok.ends j k e ∙ sym (same j k);
+  }
+    where
+      same : (j k : ℕ) → place_of (with_message s p m) j k ≡ place_of s j k
+      same j k = ap (λ f. spot f (chain_of s j).first k) (fun_ext (next_filled s s i p m ok li loose))
+
+  module _ (none : len_of s i ≡ 0) where
+    more_begun : Longer s (begun s i p m) i p m
+    more_begun = more_first s (begun s i p m) i p m ok li loose none refl refl
+
+    pub linked_begun : Linked (begun s i p m)
+    linked_begun = linked s (begun s i p m) i p m ok loose more_begun
+
+    pub attached_begun : Attached s (begun s i p m) i m
+    attached_begun = longer s (begun s i p m) i p m ok loose more_begun
+
+  module _ (some : len_of s i ≡ 0 → ⊥) where
+    more_extended : Longer s (extended s i p m) i p m
+    more_extended = more_next s (extended s i p m) i p m ok li loose some refl refl
+
+    pub linked_extended : Linked (extended s i p m)
+    linked_extended = linked s (extended s i p m) i p m ok loose more_extended
+
+    pub attached_extended : Attached s (extended s i p m) i m
+    attached_extended = longer s (extended s i p m) i p m ok loose more_extended

@@ -3,11 +3,13 @@ use Rattle.std.proofs.Common.{◌≡◌, ℕ, zero, suc, ◌+◌, ◌-◌, ◌<�
 use Rattle.std.proofs.lemmas.List.{length-set, length-replicate, get_or-replicate, get_or_past, get_or-set_same, get_or-set_other}
 use Rattle.std.proofs.lemmas.Bool.{cases_eq, cases_lt}
 use Rattle.chains.specs.declared.table.Chain.{Chain}
-use Rattle.chains.specs.declared.table.Table.{Table}
 use Rattle.chains.specs.Spots.{spot, listed}
 use Rattle.chains.specs.Changes.{Cleared}
-use Rattle.chains.specs.Tables.{no_chain, chain_of, len_of, place_of, places, next_in, message_in, Linked}
+use Rattle.chains.specs.Linkages.{Linkage, no_chain, chain_of, len_of, place_of, places, next_in, message_in, Linked}
 use Rattle.chains.proofs.Spots.{spot_start, spot-step, listed_none}
+
+pub is_no_chain : (c : Chain) → (c.first ≡ 0) × ((c.last ≡ 0) × (c.len ≡ 0)) → c ≡ no_chain
+is_no_chain c e = λ i. record { first = e.0 i; last = e.1.0 i; len = e.1.1 i }
 
 -- where each place is followed by the next number, they are counted
 spot_count : (next : ℕ → ℕ) (n : ℕ) → ((k : ℕ) → k < n → next k ≡ k + 1) → (k : ℕ) → k ≤ n → spot next 0 k ≡ k
@@ -22,8 +24,8 @@ same_everywhere n a i = go (cases_lt i n)
     go (inl l) = get_or-replicate n i a a l
     go (inr h) = get_or_past (replicate n a) i a (omega (arith, length-replicate n a))
 
-module _ (s t : Table) (nones : List Chain) (end n : ℕ) (empty : nones ≡ replicate 257 no_chain) (room : places t ≡ places s) (whole : n ≡ places t) (before : end ≡ n - 1)
-    (up : (k : ℕ) → k < n → next_in t.links.now k ≡ k + 1) (chains : t.chains ≡ set nones 256 (record { first = 0; last = end; len = n })) where
+module _ (t : Linkage) (nones : List Chain) (end n : ℕ) (empty : nones ≡ replicate 257 no_chain) (whole : n ≡ places t) (before : end ≡ n - 1)
+    (up : (k : ℕ) → k < n → next_in t.links k ≡ k + 1) (chains : t.chains ≡ set nones 256 (record { first = 0; last = end; len = n })) where
   abbrev all : Chain
   all = record { first = 0; last = end; len = n }
 
@@ -52,9 +54,9 @@ module _ (s t : Table) (nones : List Chain) (end n : ℕ) (empty : nones ≡ rep
   counts : (i k : ℕ) → k < len_of t i → place_of t i k ≡ k
   counts i k l =
       let lk = short i k l in
-      ap (λ c. spot (next_in t.links.now) c.first k) (here i (last_only i k l)) ∙ spot_count (next_in t.links.now) n up k (omega arith)
+      ap (λ c. spot (next_in t.links) c.first k) (here i (last_only i k l)) ∙ spot_count (next_in t.links) n up k (omega arith)
 
-  linked : Linked t
+  pub linked : Linked t
   linked = record {
     chained = ap length chains ∙ length-set nones 256 all ∙ many;
     apart = λ m. (
@@ -69,10 +71,9 @@ module _ (s t : Table) (nones : List Chain) (end n : ℕ) (empty : nones ≡ rep
         omega (arith, counts i k l, before, a, b, e);
   }
 
-  pub cleared : Cleared s t
+  pub cleared : Cleared n t
   cleared = record {
-    linked = linked;
-    room = room;
-    free = ap (λ c. c.len) (here 256 refl) ∙ whole;
-    none = λ i ne. ap (λ c. listed (λ k. message_in t.links.now (spot (next_in t.links.now) c.first k)) c.len) (else i ne) ∙ listed_none (λ k. message_in t.links.now (spot (next_in t.links.now) 0 k));
+    room = sym whole;
+    free = ap (λ c. c.len) (here 256 refl);
+    none = λ i ne. ap (λ c. listed (λ k. message_in t.links (spot (next_in t.links) c.first k)) c.len) (else i ne) ∙ listed_none (λ k. message_in t.links (spot (next_in t.links) 0 k));
   }

@@ -3,10 +3,9 @@ use Rattle.std.proofs.Common.{◌≡◌, ℕ, ◌+◌, ◌-◌, ◌<◌, cond, e
 use Rattle.std.proofs.lemmas.List.{length-set, get_or-set_same, get_or-set_other}
 use Rattle.std.proofs.lemmas.Bool.{cases_eq, eq-eqb, ne_eqb}
 use Rattle.chains.specs.declared.table.Chain.{Chain}
-use Rattle.chains.specs.declared.table.Table.{Table}
 use Rattle.chains.specs.Spots.{spot, listed}
 use Rattle.chains.specs.Changes.{Detached}
-use Rattle.chains.specs.Tables.{no_chain, chain_of, len_of, place_of, places, next_in, message_in, messages, Linked, Meeting}
+use Rattle.chains.specs.Linkages.{Linkage, linkage_of, no_chain, chain_of, len_of, place_of, places, next_in, message_in, messages, Linked, Meeting}
 use Rattle.chains.proofs.Spots.{spot_start, spot_next, listed_first}
 
 -- the spot in chain j, before chain i lost its first place, of what is now at k
@@ -28,13 +27,13 @@ up_same i j h k l e same = go (cases_eq j i)
     go (inl y) = omega (arith, up_here i j k y, up_here i h l (sym e ∙ y), same)
     go (inr n) = omega (arith, up_else i j k n, up_else i h l (λ y. n (e ∙ y)), same)
 
-pub first_within : (s : Table) (i : ℕ) → Linked s → 0 < len_of s i → (chain_of s i).first < places s
-first_within s i ok some = omega (arith, spot_start (next_in s.links.now) (chain_of s i).first, ok.within i 0 some)
+pub first_within : (s : Linkage) (i : ℕ) → Linked s → 0 < len_of s i → (chain_of s i).first < places s
+first_within s i ok some = omega (arith, spot_start (next_in s.links) (chain_of s i).first, ok.within i 0 some)
 
-module _ (s t : Table) (i : ℕ) (ok : Linked s) (li : i < 257) (some : 0 < len_of s i) (links : t.links.now ≡ s.links.now)
-    (chains : t.chains ≡ set s.chains i (record { first = next_in s.links.now (chain_of s i).first; last = (chain_of s i).last; len = len_of s i - 1 })) where
+module _ (s t : Linkage) (i : ℕ) (ok : Linked s) (li : i < 257) (some : 0 < len_of s i) (links : t.links ≡ s.links)
+    (chains : t.chains ≡ set s.chains i (record { first = next_in s.links (chain_of s i).first; last = (chain_of s i).last; len = len_of s i - 1 })) where
   abbrev new : Chain
-  new = record { first = next_in s.links.now (chain_of s i).first; last = (chain_of s i).last; len = len_of s i - 1 }
+  new = record { first = next_in s.links (chain_of s i).first; last = (chain_of s i).last; len = len_of s i - 1 }
 
   here : (j : ℕ) → j ≡ i → chain_of t j ≡ new
   here j e = ap₂ (λ cs h. get_or cs h no_chain) chains e ∙ get_or-set_same s.chains i new no_chain (omega (arith, ok.chained))
@@ -48,7 +47,7 @@ module _ (s t : Table) (i : ℕ) (ok : Linked s) (li : i < 257) (some : 0 < len_
   place_here : (j k : ℕ) → j ≡ i → place_of t j k ≡ place_of s j (k + 1)
   place_here j k e =
       ap₂ (λ ls c. spot (next_in ls) c.first k) links (here j e)
-      ∙ spot_next (next_in s.links.now) (chain_of s i).first k
+      ∙ spot_next (next_in s.links) (chain_of s i).first k
       ∙ ap₂ (λ h n. place_of s h n) (sym e) (sym (add-one k))
 
   place_else : (j k : ℕ) → (j ≡ i → ⊥) → place_of t j k ≡ place_of s j k
@@ -107,7 +106,7 @@ module _ (s t : Table) (i : ℕ) (ok : Linked s) (li : i < 257) (some : 0 < len_
       go j k e (inr ne) = ap (λ c. c.last) (else j ne) ∙ ok.ends j k (sym (len_else j ne) ∙ e) ∙ sym (place_else j k ne)
 
   start : place_of s i 0 ≡ (chain_of s i).first
-  start = spot_start (next_in s.links.now) (chain_of s i).first
+  start = spot_start (next_in s.links) (chain_of s i).first
 
   alone : (j k : ℕ) → k < len_of t j → place_of t j k ≡ (chain_of s i).first → ⊥
   alone j k l e = go (cases_eq j i)
@@ -119,15 +118,25 @@ module _ (s t : Table) (i : ℕ) (ok : Linked s) (li : i < 257) (some : 0 < len_
       go (inl y) = omega (arith, up_here i j k y, (ok.apart old).1)
       go (inr ne) = ne (ok.apart old).0
 
-  pub detached : Detached s t i (chain_of s i).first
+  detached : Detached s t i (chain_of s i).first
   detached = record {
-    linked = linked;
     loose = record { less = omega (arith, room, first_within s i ok some); alone = alone };
     links = links;
     first =
-        ap (listed (λ k. message_in s.links.now (place_of s i k))) (sym (len_here i refl))
-        ∙ listed_first (λ k. message_in s.links.now (place_of s i k)) (λ k. message_in t.links.now (place_of t i k)) (len_of t i)
+        ap (listed (λ k. message_in s.links (place_of s i k))) (sym (len_here i refl))
+        ∙ listed_first (λ k. message_in s.links (place_of s i k)) (λ k. message_in t.links (place_of t i k)) (len_of t i)
         (λ k l. ap₂ message_in links (place_here i k refl))
-        ∙ ap (λ p. message_in s.links.now p ∷ messages t i) start;
+        ∙ ap (λ p. message_in s.links p ∷ messages t i) start;
     others = λ j ne. ap₂ (λ ls c. listed (λ k. message_in ls (spot (next_in ls) c.first k)) c.len) links (else j ne);
   }
+
+-- what a detachment writes
+abbrev pub shortened : Linkage → ℕ → Linkage
+shortened s i = linkage_of s.links (set s.chains i (record { first = next_in s.links (chain_of s i).first; last = (chain_of s i).last; len = len_of s i - 1 }))
+
+module _ (s : Linkage) (i : ℕ) (ok : Linked s) (li : i < 257) (some : 0 < len_of s i) where
+  pub linked_shortened : Linked (shortened s i)
+  linked_shortened = linked s (shortened s i) i ok li some refl refl
+
+  pub detached_shortened : Detached s (shortened s i) i (chain_of s i).first
+  detached_shortened = detached s (shortened s i) i ok li some refl refl

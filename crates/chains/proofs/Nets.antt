@@ -1,24 +1,21 @@
 -- The chains of pairs as a net.
-use Rattle.std.proofs.Common.{◌≡◌, ℕ, ◌+◌, ◌*◌, ◌<◌, ◌≤◌, ltb, ◌⊎◌, List, [], sym, ◌∙◌, inl, inr, arith}
+use Rattle.std.proofs.Common.{◌≡◌, ℕ, ◌+◌, ◌*◌, ◌<◌, ◌≤◌, ◌⊎◌, List, [], length, ap, sym, ◌∙◌, inl, inr, arith}
 use mathlib.Core.Path.{fun_ext}
 use Rattle.std.proofs.lemmas.Bool.{cases_lt, lt-ltb, le-ltb, and_from, and_left, and_right}
 use Rattle.theory.specs.declared.message.Message.{Message}
 use Rattle.theory.specs.Net.{put_pair}
 use Rattle.theory.proofs.Nets.{pair_is}
-use Rattle.chains.specs.Tables.{net}
+use Rattle.chains.specs.Linkages.{net}
+use Rattle.chains.specs.Propers.{net_in, net_no_sender, net_no_taker}
 
-module _ (n : ℕ) (chains : ℕ → List Message) (from to : ℕ) where
-  pub net_in : from < n → to < n → net n chains from to ≡ chains (from * 16 + to)
-  unfolding net
-  net_in f t = rw (and_from (ltb from n) (ltb to n) (lt-ltb from n f) (lt-ltb to n t))
-
-  pub net_no_sender : n ≤ from → net n chains from to ≡ []
-  unfolding net
-  net_no_sender h = rw (and_left (ltb from n) (ltb to n) (le-ltb from n h))
-
-  pub net_no_taker : n ≤ to → net n chains from to ≡ []
-  unfolding net
-  net_no_taker h = rw (and_right (ltb from n) (ltb to n) (le-ltb to n h))
+-- a pair that is not joined
+pub length-net_outside : (n : ℕ) (chains : ℕ → List Message) (f t : ℕ) → ((f < n) × (t < n) → ⊥) → length (net n chains f t) ≡ 0
+length-net_outside n chains f t out = go (cases_lt f n) (cases_lt t n)
+  where
+    go : (f < n) ⊎ (n ≤ f) → (t < n) ⊎ (n ≤ t) → length (net n chains f t) ≡ 0
+    go (inl lf) (inl lt) = absurd (out (lf, lt))
+    go (inl lf) (inr ht) = ap length (net_no_taker n chains f t ht)
+    go (inr hf) _ = ap length (net_no_sender n chains f t hf)
 
 -- two pairs have two chains
 pub pair_apart : (f t i j : ℕ) → t < 16 → j < 16 → i * 16 + j ≡ f * 16 + t → (i ≡ f) × (j ≡ t)

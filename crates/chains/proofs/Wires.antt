@@ -4,50 +4,40 @@ use Rattle.std.proofs.lemmas.List.{length_push, nil_from_length}
 use Rattle.theory.specs.declared.fault.WireFault.TheVariants.{Full, Empty}
 use Rattle.theory.specs.declared.message.Message.{Message}
 use Rattle.theory.specs.Net.{Net, put_pair, total}
-use Rattle.theory.specs.Wire.{WireState, Proper, send, take, empty}
+use Rattle.theory.specs.Wire.{WireState, send, take, empty}
 use Rattle.theory.proofs.Nets.{total-pair, pair_within_total}
 use Rattle.theory.proofs.Sums.{total_none}
 use Rattle.theory.proofs.Wires.{send_some, send_full, take_some, take_none}
 use Rattle.chains.specs.declared.Chains.{Chains}
-use Rattle.chains.specs.declared.table.Table.{Table}
 use Rattle.chains.specs.Changes.{Pushed, Popped, Cleared}
-use Rattle.chains.specs.Tables.{len_of, places, messages, net, Linked}
+use Rattle.chains.specs.Linkages.{Linkage, len_of, places, messages, net}
+use Rattle.chains.specs.Tables.{linkage}
 use Rattle.chains.specs.WireStates.{wire_state}
-use Rattle.chains.proofs.Nets.{net_in, net_no_sender, net_no_taker, net_none, net_changed}
+use Rattle.chains.specs.Propers.{net_in}
+use Rattle.chains.proofs.Nets.{net_none, net_changed}
 use Rattle.chains.proofs.Pushes.{length-messages}
 
 abbrev made : ℕ → ℕ → Net → WireState
 made boards capacity waiting = record { boards = boards; capacity = capacity; waiting = waiting }
 
-pub all_linked : (w : Chains) → Linked w.table
-all_linked w = record { chained = w.chained; apart = w.apart; within = w.within; ends = w.ends }
-
-pub proper : (w : Chains) → Proper (wire_state w)
-proper w = record {
-  few = w.few;
-  fits = omega (arith, w.summed, w.counted);
-  no_sender = λ f t h. net_no_sender w.boards (messages w.table) f t h;
-  no_taker = λ f t h. net_no_taker w.boards (messages w.table) f t h;
-}
-
 -- a table whose places are all free
-module _ (s t : Table) (n : ℕ) (few : n ≤ 16) (clear : Cleared s t) where
+module _ (room : ℕ) (t : Linkage) (n : ℕ) (few : n ≤ 16) (clear : Cleared room t) where
   waits_none : net n (messages t) ≡ (λ _ _. [])
   waits_none = net_none n (messages t) few clear.none
 
-  pub state_none : record { boards = n; capacity = places t; waiting = net n (messages t) } ≡ empty n (places s)
+  pub state_none : record { boards = n; capacity = places t; waiting = net n (messages t) } ≡ empty n room
   state_none = ap₂ (made n) clear.room waits_none
 
   pub counted_none : 0 + len_of t 256 ≡ places t
-  counted_none = omega (arith, clear.free)
+  counted_none = omega (arith, clear.free, clear.room)
 
   pub summed_none : 0 ≡ total n (net n (messages t))
   summed_none = sym (ap (total n) waits_none ∙ total_none n)
 
 -- a pair below the number of boards, with its chain
 module _ (w : Chains) (f t i : ℕ) (lf : f < w.boards) (lt : t < w.boards) (is : i ≡ f * 16 + t) where
-  abbrev s : Table
-  s = w.table
+  abbrev s : Linkage
+  s = linkage w.table
 
   abbrev n : ℕ
   n = w.boards
@@ -68,16 +58,16 @@ module _ (w : Chains) (f t i : ℕ) (lf : f < w.boards) (lt : t < w.boards) (is 
   chain_within = omega (arith, waits, pair_within_total n before f t lf lt, w.summed)
 
   -- what the net is once the chain has other messages
-  changed : (u : Table) → ((j : ℕ) → (j ≡ i → ⊥) → (j ≡ 256 → ⊥) → messages u j ≡ messages s j) → net n (messages u) ≡ put_pair before f t (messages u i)
+  changed : (u : Linkage) → ((j : ℕ) → (j ≡ i → ⊥) → (j ≡ 256 → ⊥) → messages u j ≡ messages s j) → net n (messages u) ≡ put_pair before f t (messages u i)
   changed u others =
       net_changed n (messages s) (messages u) f t w.few lf lt (λ j ne nf. others j (λ e. ne (e ∙ is)) nf)
       ∙ ap (λ h. put_pair before f t (messages u h)) (sym is)
 
-  recount : (u : Table) → net n (messages u) ≡ put_pair before f t (messages u i) → total n (net n (messages u)) + len_of s i ≡ w.total + len_of u i
+  recount : (u : Linkage) → net n (messages u) ≡ put_pair before f t (messages u i) → total n (net n (messages u)) + len_of s i ≡ w.total + len_of u i
   recount u e =
       omega (arith, ap (total n) e, total-pair n before f t (messages u i) lf lt, waits, length-messages u i, w.summed)
 
-  module _ (u : Table) (m : Message) (p : Pushed s u i m) where
+  module _ (u : Linkage) (m : Message) (p : Pushed s u i m) where
     pub counted-pushed : w.total + 1 + len_of u 256 ≡ places u
     counted-pushed = omega (arith, w.counted, p.free, p.room)
 
@@ -91,7 +81,7 @@ module _ (w : Chains) (f t i : ℕ) (lf : f < w.boards) (lt : t < w.boards) (is 
         ap₂ (λ c k. (made n c k, Ok tt)) p.room (changed u p.others ∙ ap (put_pair before f t) (p.last ∙ ap (λ ms. ms ++ m ∷ []) (sym here)))
         ∙ sym (send_some (wire_state w) f t lf lt m (λ e. free (omega (arith, w.summed, w.counted, e))))
 
-  module _ (u : Table) (m : Message) (p : Popped s u i m) where
+  module _ (u : Linkage) (m : Message) (p : Popped s u i m) where
     less : len_of u i + 1 ≡ len_of s i
     less =
         let e : length (messages s i) ≡ length (messages u i) + 1 = ap length p.first ∙ omega arith in

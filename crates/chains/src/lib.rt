@@ -3,15 +3,16 @@
 // messages wait.
 #![tactic(auto)]
 
-ghost use Rattle.std.specs.Prelude.{◌≡◌, ◌≤◌, length};
-ghost use Rattle.chains.specs.Tables.{Apart, Within, Ends, Counted, Summed};
+ghost use Rattle.std.specs.Prelude.{◌≤◌};
+ghost use Rattle.chains.specs.Linkages.{Counted, Summed};
+ghost use Rattle.chains.specs.Tables.{linkage};
 
 use crate::table::Table;
 use theory::message::Message;
 
+pub mod as_wire;
 mod open;
 mod table;
-pub mod wire;
 
 // A place of the table: a message, and the place that follows it in its chain.
 #[derive(Clone, Copy)]
@@ -34,11 +35,7 @@ pub struct Chains<'a> {
     table: Table<'a>,
     boards: u32,
     total: usize,
-    ghost chained: { length table.chains ≡ 257 },
-    ghost apart: { Apart table },
-    ghost within: { Within table },
-    ghost ends: { Ends table },
     ghost few: { boards ≤ 16 },
-    ghost counted: { Counted table total },
-    ghost summed: { Summed table boards total },
+    ghost counted: { Counted (linkage table) total },
+    ghost summed: { Summed (linkage table) boards total },
 }

@@ -1,34 +1,28 @@
 // A wire that joins no board yet, and its opening.
-ghost use Rattle.std.specs.Prelude.{◌≡◌, length, OnErr};
-ghost use Rattle.theory.specs.Wire.{empty, open_for};
+ghost use Rattle.std.specs.Prelude.{◌≡◌, length};
+ghost use Rattle.theory.specs.Wire.{empty};
 ghost use Rattle.chains.specs.WireStates.{wire_state};
 
-use crate::table::{Table, no_chains};
+use crate::table::Table;
 use crate::{Chains, Link};
 use theory::fault::PackFault;
+use wire::opening::Open;
 
 impl<'a> Chains<'a> {
     // Joins no board: every message is refused until `open`. All places are free.
     pub fn over(links: &'a mut [Link]) -> Chains<'a>
         ensures { wire_state result ≡ empty 0 (length links.old) }
     {
-        let mut table = Table {
-            links,
-            chains: no_chains(),
-        };
-        table.clear();
         Chains {
-            table,
+            table: Table::over(links),
             boards: 0,
             total: 0,
         }
     }
+}
 
-    // Joins so many boards, with nothing on the wire, or refuses more than 16.
-    pub fn open(&mut self, boards: u32) -> Result<(), PackFault>
-        ensures does_its_step { (wire_state self.new, result) ≡ open_for boards (wire_state self.old) }
-        ensures refused_leaves_all_as_it_was { OnErr result (self.new ≡ self.old) }
-    {
+impl Open for Chains<'_> {
+    fn open(&mut self, boards: u32) -> Result<(), PackFault> {
         if boards > 16 {
             return Err(PackFault::Setting);
         }

@@ -1,4 +1,3 @@
-pub mod Gaps
 pub mod Joins
 pub mod Picks
 pub mod Steps

@@ -1,21 +1,21 @@
 -- The steps of a wire, on the letters of a line.
-use Rattle.std.proofs.Common.{◌≡◌, ℕ, ◌<◌, ◌≤◌, true, List, [], ◌∷◌, ◌++◌, length, get_or, Ok, Err, Result, sym, ap, ◌∙◌, ap₂}
-use Rattle.std.specs.List.{remove}
+use Rattle.std.proofs.Common.{◌≡◌, ℕ, ◌<◌, ◌≤◌, true, List, [], ◌∷◌, ◌++◌, length, get_or, Some, None, Option, Ok, Err, Result, sym, ap, ◌∙◌, ap₂}
+use Rattle.std.specs.List.{remove, position}
 use Rattle.theory.specs.declared.fault.PackFault.{PackFault}
 use Rattle.theory.specs.declared.fault.WireFault.{WireFault}
 use Rattle.theory.specs.declared.fault.WireFault.TheVariants.{Full, Empty}
 use Rattle.theory.specs.declared.message.Message.{Message}
+use Rattle.theory.specs.declared.message.Pair.{Pair}
 use Rattle.theory.specs.Wire.{WireState, Proper, empty, open_for, send, take}
 use Rattle.theory.proofs.Wires as wires
 use Rattle.theory.proofs.Wires.{send_some, take_some, open_few}
 use Rattle.line.specs.declared.letters.Letter.{Letter}
-use Rattle.line.specs.Letters.{letter, pick, line_of, first_of, joins}
-use Rattle.line.proofs.Joins.{no_sender, no_taker, total-picked}
-use Rattle.line.proofs.Picks.{pick-send, pick-take, pick_removed, pick_none}
+use Rattle.line.specs.Letters.{letter, for_pair, pick, line_of, joins}
+use Rattle.line.specs.Propers.{total-picked}
+use Rattle.line.proofs.Picks.{find_some, find_none, pick-send, pick-take, pick_removed, pick_none}
 
 -- nothing waits where there are no letters
 pub line_none : (n capacity room : ℕ) (ls : List Letter) → ls ≡ [] → room ≡ capacity → line_of n room ls ≡ empty n capacity
-unfolding pick
 line_none n capacity room ls e r = ap₂ (λ z k. line_of n k z) e r
 
 pub open_clear : (n capacity room : ℕ) (w : WireState) (ls : List Letter) → n ≤ 16 → w.capacity ≡ capacity → ls ≡ [] → room ≡ capacity
@@ -23,34 +23,27 @@ pub open_clear : (n capacity room : ℕ) (w : WireState) (ls : List Letter) → 
 open_clear n capacity room w ls few k e r = ap (λ z. (z, Ok tt)) (line_none n w.capacity room ls e (r ∙ sym k)) ∙ sym (open_few n w few)
 
 module _ (n capacity : ℕ) (ls : List Letter) (j : joins n ls ≡ true) where
-  pub line_proper : n ≤ 16 → length ls ≤ capacity → Proper (line_of n capacity ls)
-  line_proper few fits =
-      record {
-        few = few;
-        fits = rw (total-picked n ls j) fits;
-        no_sender = no_sender n ls j;
-        no_taker = no_taker n ls j;
-      }
+  module _ (p : Pair) (lf : p.from < n) (lt : p.to < n) where
+    pub send_full : (m : Message) → length ls ≡ capacity
+        → ◌≡◌ {A = WireState × Result (Unit {0}) WireFault} (line_of n capacity ls, Err Full) (send p.from p.to m (line_of n capacity ls))
+    send_full m full = sym (wires.send_full (line_of n capacity ls) p.from p.to lf lt m (total-picked n ls j ∙ full))
 
-  module _ (f t : ℕ) (lf : f < n) (lt : t < n) where
-    pub send_full : (m : Message) → length ls ≡ capacity → ◌≡◌ {A = WireState × Result (Unit {0}) WireFault} (line_of n capacity ls, Err Full) (send f t m (line_of n capacity ls))
-    send_full m full = sym (wires.send_full (line_of n capacity ls) f t lf lt m (total-picked n ls j ∙ full))
-
-    pub send_more : (m : Message) (new : List Letter) (room : ℕ) → (length ls ≡ capacity → ⊥) → new ≡ ls ++ letter f t m ∷ [] → room ≡ capacity
-        → ◌≡◌ {A = WireState × Result (Unit {0}) WireFault} (line_of n room new, Ok tt) (send f t m (line_of n capacity ls))
+    pub send_more : (m : Message) (new : List Letter) (room : ℕ) → (length ls ≡ capacity → ⊥) → new ≡ ls ++ letter p m ∷ [] → room ≡ capacity
+        → ◌≡◌ {A = WireState × Result (Unit {0}) WireFault} (line_of n room new, Ok tt) (send p.from p.to m (line_of n capacity ls))
     send_more m new room free e r =
         ap₂ (λ k l. (line_of n k l, Ok tt)) r e
-        ∙ ap (λ w. (record { boards = n; capacity = capacity; waiting = w }, Ok tt)) (pick-send f t m ls)
-        ∙ sym (send_some (line_of n capacity ls) f t lf lt m (λ z. free (sym (total-picked n ls j) ∙ z)))
+        ∙ ap (λ w. (record { boards = n; capacity = capacity; waiting = w }, Ok tt)) (pick-send p m ls)
+        ∙ sym (send_some (line_of n capacity ls) p.from p.to lf lt m (λ z. free (sym (total-picked n ls j) ∙ z)))
 
 module _ (n capacity : ℕ) (ls : List Letter) (f t : ℕ) (lf : f < n) (lt : t < n) where
-  pub take_none : length ls ≡ first_of f t ls → ◌≡◌ {A = WireState × Result Message WireFault} (line_of n capacity ls, Err Empty) (take f t (line_of n capacity ls))
-  take_none e = sym (wires.take_none (line_of n capacity ls) f t lf lt (pick_none f t ls e))
+  pub take_none : ◌≡◌ {A = Option ℕ} None (position (for_pair f t) ls) → ◌≡◌ {A = WireState × Result Message WireFault} (line_of n capacity ls, Err Empty) (take f t (line_of n capacity ls))
+  take_none e = sym (wires.take_none (line_of n capacity ls) f t lf lt (pick_none f t ls (find_none f t ls e)))
 
-  pub take_one : (m : Message) (at room : ℕ) (new : List Letter) → at ≡ first_of f t ls → at < length ls → ((d : Letter) → m ≡ (get_or ls at d).message)
+  pub take_one : (m : Message) (at room : ℕ) (new : List Letter) → Some at ≡ position (for_pair f t) ls → ((d : Letter) → m ≡ (get_or ls at d).message)
       → new ≡ remove ls at → room ≡ capacity
       → ◌≡◌ {A = WireState × Result Message WireFault} (line_of n room new, Ok m) (take f t (line_of n capacity ls))
-  take_one m at room new e l read New-is r =
-      ap₂ (λ k l. (line_of n k l, Ok m)) r New-is
-      ∙ ap (λ w. (record { boards = n; capacity = capacity; waiting = w }, Ok m)) (pick_removed f t at ls e)
-      ∙ sym (take_some (line_of n capacity ls) f t lf lt m (pick f t (remove ls at)) (pick-take f t at m ls e l read))
+  take_one m at room new found read closed r =
+      let e = find_some f t at ls found in
+      ap₂ (λ k l. (line_of n k l, Ok m)) r closed
+      ∙ ap (λ w. (record { boards = n; capacity = capacity; waiting = w }, Ok m)) (pick_removed f t at ls e.0)
+      ∙ sym (take_some (line_of n capacity ls) f t lf lt m (pick f t (remove ls at)) (pick-take f t at m ls e.0 e.1 read))

@@ -1,3 +1,4 @@
 pub mod Kept
 pub mod Letters
+pub mod Propers
 pub mod WireStates

@@ -3,8 +3,8 @@ use crate::draws::{Draws, message};
 use std::process::Abort;
 use std::test::Fail;
 use theory::fault::WireFault;
-use wires::Wire;
-use wires::transfer::transfer;
+use wire::Wire;
+use wire::transfer::transfer;
 
 // The messages of a pair, in order: each is taken and sent back, so that all stand as before.
 fn same_pair<A: Wire, B: Wire>(

@@ -3,8 +3,8 @@ use crate::draws::message;
 use std::process::Abort;
 use std::test::Fail;
 use theory::fault::WireFault;
-use wires::Wire;
-use wires::transfer::transfer;
+use wire::Wire;
+use wire::transfer::transfer;
 
 // A wire of 2 boards and 3 places is filled. The pair is looked at before the room.
 pub(crate) fn fills<W: Wire>(rt: &impl Abort, wire: &mut W) -> Result<(), Fail> {

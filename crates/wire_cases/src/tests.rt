@@ -7,7 +7,7 @@ use std::process::Abort;
 use std::test::Fail;
 use theory::fault::PackFault;
 use theory::message::Message;
-use wires::Wire;
+use wire::Wire;
 
 fn alike(
     rt: &impl Abort,

@@ -7,7 +7,7 @@ use line::{Letter, Line};
 use std::env;
 use std::time::Instant;
 use theory::message::Message;
-use wires::Wire;
+use wire::Wire;
 
 const BOARDS: u32 = 16;
 

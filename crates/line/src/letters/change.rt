@@ -3,14 +3,15 @@ ghost use Rattle.std.specs.Prelude.{◌≡◌, ◌<◌, [], ◌∷◌, ◌++◌,
 ghost use Rattle.std.specs.List.{remove};
 ghost use Rattle.line.specs.declared.letters.Letter.{Letter};
 ghost use Rattle.line.specs.Letters.{letter};
-ghost use Rattle.line.specs.Kept.{Fits, Holds, kept, room};
+ghost use Rattle.line.specs.Kept.{kept, lent, room};
 
 use super::{Letter, Letters};
-use theory::message::Message;
+use theory::message::{Message, Pair};
 
 impl<'a> Letters<'a> {
     pub(crate) fn over(places: &'a mut [Letter]) -> Letters<'a>
-        ensures { Holds result [] (length places.old) }
+        ensures none { kept result ≡ [] }
+        ensures places { lent result ≡ places.old }
     {
         Letters { places, used: 0 }
     }
@@ -18,34 +19,33 @@ impl<'a> Letters<'a> {
 
 impl Letters<'_> {
     pub(crate) fn clear(&mut self)
-        ensures { Holds self.new [] (room self.old) }
+        ensures none { kept self.new ≡ [] }
+        ensures places { lent self.new ≡ lent self.old }
     {
         self.used = 0;
     }
 
-    pub(crate) fn push(&mut self, from: u32, to: u32, message: Message)
-        requires fits { Fits self.old }
+    pub(crate) fn push(&mut self, pair: Pair, message: Message)
         requires free { length (kept self.old) < room self.old }
-        ensures { Holds self.new (kept self.old ++ letter from to message ∷ []) (room self.old) }
+        ensures behind { kept self.new ≡ kept self.old ++ letter pair message ∷ [] }
+        ensures room { room self.new ≡ room self.old }
     {
         let at = self.used;
-        self.places[at] = Letter { from, to, message };
+        self.places[at] = Letter { pair, message };
         self.used = at + 1;
     }
 
     // Takes the letter at a place out, and closes the gap.
     pub(crate) fn remove(&mut self, at: usize) -> Message
-        requires fits { Fits self.old }
         requires there { at < length (kept self.old) }
         ensures message { (d : Letter) → result ≡ (slice_index_or (kept self.old) at d).message }
-        ensures closed { Holds self.new (remove (kept self.old) at) (room self.old) }
+        ensures closed { kept self.new ≡ remove (kept self.old) at }
+        ensures room { room self.new ≡ room self.old }
     {
         let message = self.places[at].message;
-        let last = self.used - 1;
-        for i in at..last {
-            self.places[i] = self.places[i + 1];
-        }
-        self.used = last;
+        let used = self.used;
+        self.places.copy_within(at + 1..used, at);
+        self.used = used - 1;
         message
     }
 }

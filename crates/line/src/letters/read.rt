@@ -1,57 +1,43 @@
 // Reading the letters pair by pair.
 ghost use Rattle.std.specs.Prelude.{◌≡◌, length};
-ghost use Rattle.line.specs.Letters.{Found, pick};
-ghost use Rattle.line.specs.Kept.{Fits, kept};
+ghost use Rattle.std.specs.List.{filter, position};
+ghost use Rattle.line.specs.Letters.{for_pair, pick};
+ghost use Rattle.line.specs.Kept.{kept, room};
 
 use super::{Letter, Letters};
+use theory::message::Pair;
 
 // The place of the first letter of a pair.
-fn first_place(letters: &[Letter], from: u32, to: u32) -> Option<usize>
-    ensures { Found from to letters.now result }
+fn first_place(letters: &[Letter], pair: Pair) -> Option<usize>
+    ensures { result ≡ position (for_pair pair.from pair.to) letters.now }
 {
-    for (i, letter) in letters.iter().enumerate() {
-        if letter.is_for(from, to) {
-            return Some(i);
-        }
-    }
-    None
+    letters.iter().position(|letter| letter.pair == pair)
 }
 
 // How many letters are for a pair.
-fn count_letters(letters: &[Letter], from: u32, to: u32) -> usize
-    ensures { result ≡ length (pick from to letters.now) }
+fn count_letters(letters: &[Letter], pair: Pair) -> usize
+    ensures { result ≡ length (filter (for_pair pair.from pair.to) letters.now) }
 {
-    let mut found = 0;
-    for letter in letters {
-        if letter.is_for(from, to) {
-            found += 1;
-        }
-    }
-    found
+    letters.iter().filter(|letter| letter.pair == pair).count()
 }
 
 impl Letters<'_> {
     // Where a pair's first letter is.
-    pub(crate) fn find(&self, from: u32, to: u32) -> Option<usize>
-        requires { Fits self.now }
-        ensures { Found from to (kept self.now) result }
+    pub(crate) fn find(&self, pair: Pair) -> Option<usize>
+        ensures { result ≡ position (for_pair pair.from pair.to) (kept self.now) }
     {
-        let used = self.used;
-        first_place(&self.places[0..used], from, to)
+        first_place(&self.places[..self.used], pair)
     }
 
     // How many letters a pair has.
-    pub(crate) fn count(&self, from: u32, to: u32) -> usize
-        requires { Fits self.now }
-        ensures { result ≡ length (pick from to (kept self.now)) }
+    pub(crate) fn count(&self, pair: Pair) -> usize
+        ensures { result ≡ length (pick pair.from pair.to (kept self.now)) }
     {
-        let used = self.used;
-        count_letters(&self.places[0..used], from, to)
+        count_letters(&self.places[..self.used], pair)
     }
 
     // How many letters there are.
     pub(crate) fn len(&self) -> usize
-        requires { Fits self.now }
         ensures { result ≡ length (kept self.now) }
     {
         self.used
@@ -59,7 +45,7 @@ impl Letters<'_> {
 
     // How many letters there is room for.
     pub(crate) fn room(&self) -> usize
-        ensures { result ≡ length self.now.places.now }
+        ensures { result ≡ room self.now }
     {
         self.places.len()
     }

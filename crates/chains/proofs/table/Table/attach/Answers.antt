@@ -1,21 +1,45 @@
-use Rattle.std.proofs.Common.{◌<◌, length, refl, rules}
-use Rattle.chains.specs.Tables.{chain_of}
-use Rattle.chains.proofs.Attaches.{attached_first, attached_next, last_within, last_within_filled}
+use Rattle.std.proofs.Common.{◌<◌, length, rules}
+use Rattle.chains.specs.Linkages.{chain_of}
+use Rattle.chains.specs.Tables.{linkage}
+use Rattle.chains.proofs.Attaches.{linked_with_message, linked_begun, attached_begun, linked_extended, attached_extended, last_within, last_within_filled}
+use Rattle.chains.proofs.Tables.{linked_table}
 use Rattle.chains.proofs.table.Table.attach.Goals as goal
+
+pub invariant_of-self : goal.invariant_of-self
+invariant_of-self c =
+    let t = c.args.self.now in
+    let l = linked_begun (linkage t) c.args.i c.args.place c.args.message (linked_table t) c.requires.chain c.requires.loose c.if-chain-eq0.true in
+    record { chained = l.chained; apart = l.apart; within = l.within; ends = l.ends }
 
 pub returns-then-chain-eq0 : goal.returns-then-chain-eq0
 returns-then-chain-eq0 c =
-    attached_first c.args.self.now _ c.args.i c.args.place c.args.message c.requires.linked c.requires.chain c.requires.loose c.if-chain-eq0.true refl refl
+    let t = c.args.self.now in
+    attached_begun (linkage t) c.args.i c.args.place c.args.message (linked_table t) c.requires.chain c.requires.loose c.if-chain-eq0.true
+
+pub invariant_of-self-else-chain-eq0 : goal.invariant_of-self-else-chain-eq0
+invariant_of-self-else-chain-eq0 c =
+    let t = c.args.self.now in
+    let l = linked_with_message (linkage t) c.args.i c.args.place c.args.message (linked_table t) c.requires.chain c.requires.loose in
+    record { chained = l.chained; apart = l.apart; within = l.within; ends = l.ends }
 
 pub offset_bounds-self-chain : goal.offset_bounds-self-chain
 offset_bounds-self-chain c =
     let t = c.args.self.now in
-    let h : (chain_of t c.args.i).last < length t.links.now = last_within t c.args.i c.requires.linked c.if-chain-eq0.false in
+    let h : (chain_of (linkage t) c.args.i).last < length t.links.now = last_within (linkage t) c.args.i (linked_table t) c.if-chain-eq0.false in
     search rules
 
 pub bounds-self-chain : goal.bounds-self-chain
-bounds-self-chain c = last_within_filled c.args.self.now c.args.i c.args.place c.args.message c.requires.linked c.if-chain-eq0.false
+bounds-self-chain c =
+    let t = c.args.self.now in
+    last_within_filled (linkage t) c.args.i c.args.place c.args.message (linked_table t) c.if-chain-eq0.false
+
+pub invariant_of-self-2 : goal.invariant_of-self-2
+invariant_of-self-2 c =
+    let t = c.args.self.now in
+    let l = linked_extended (linkage t) c.args.i c.args.place c.args.message (linked_table t) c.requires.chain c.requires.loose c.if-chain-eq0.false in
+    record { chained = l.chained; apart = l.apart; within = l.within; ends = l.ends }
 
 pub returns : goal.returns
 returns c =
-    attached_next c.args.self.now _ c.args.i c.args.place c.args.message c.requires.linked c.requires.chain c.requires.loose c.if-chain-eq0.false refl refl
+    let t = c.args.self.now in
+    attached_extended (linkage t) c.args.i c.args.place c.args.message (linked_table t) c.requires.chain c.requires.loose c.if-chain-eq0.false

@@ -1,38 +1,21 @@
-use Rattle.std.proofs.Common.{◌≡◌, ◌-◌, ◌<◌, ◌≤◌, length, take, sym, refl, ap, ◌∙◌, arith, length-set}
-use Rattle.std.specs.List.{remove}
-use Rattle.std.proofs.lemmas.List.{length-take-le, get_or-take, get_or_default}
-use Rattle.line.proofs.Gaps.{take_removed, removed_front, close_more}
+use Rattle.std.proofs.Common.{◌≡◌, ℕ, suc, ◌+◌, ◌-◌, ◌<◌, ◌≤◌, List, ◌++◌, length, take, drop, sym, ap, ◌∙◌, ap₂, add-one, arith, length-drop}
+use Rattle.std.specs.List.{copy_within, remove}
+use Rattle.std.proofs.lemmas.List.{length-take-le, take-take, drop-take}
+use Rattle.std.proofs.lemmas.List.Edits.{take-paste}
+use Rattle.line.specs.declared.letters.Letter.{Letter}
 use Rattle.line.proofs.letters.Letters.remove.Goals as goal
 
-pub loop-i-init : goal.loop-i-init
-loop-i-init c =
-    let l = c.args.self.now in
-    let n = length-take-le l.used l.places.now c.requires.fits in
-    (refl, take_removed l.places.now c.args.at (omega (arith, n, c.requires.fits, c.requires.there)), refl)
+-- what follows a place, moved down by one
+gap_closed : (xs ys : List Letter) (at used : ℕ) → at < used → used ≤ length xs → ys ≡ copy_within xs (at + 1) used at → take (used - 1) ys ≡ remove (take used xs) at
+gap_closed xs ys at used l h e =
+    let n : ℕ = used - (at + 1) in
+    let a : used - 1 ≡ at + n = omega arith in
+    let b : used ≡ suc at + n = omega arith in
+    ap₂ take a e ∙ take-paste xs at (drop (at + 1) xs) n (omega arith) (simp length-drop (omega arith))
+    ∙ ap (λ z. take at xs ++ take n (drop z xs)) (add-one at)
+    ∙ sym (ap₂ (λ u v. u ++ v) (take-take at used xs (omega arith)) (ap (λ z. drop (suc at) (take z xs)) b ∙ drop-take (suc at) n xs))
 
-pub loop-i-preserved : goal.loop-i-preserved
-loop-i-preserved c =
+pub returns-clause-closed : goal.returns-clause-closed
+returns-clause-closed c =
     let l = c.args.self.now in
-    let inv = c.loop-i.invariant in
-    let n = length-take-le l.used l.places.now c.requires.fits in
-    let m = close_more l.places.now c.loop-i.self.places.now c.args.at c.loop-i.i _ c.loop-i.auto.i (omega (arith, c.requires.fits, c.loop-i-test.true)) inv.0 inv.1 inv.2 in
-    (length-set _ _ _ ∙ inv.0, m.0, m.1)
-
-pub returns : goal.returns
-returns c =
-    let l = c.args.self.now in
-    let xs = l.places.now in
-    let at = c.args.at in
-    let inv = c.loop-i.invariant in
-    let n : length (take l.used xs) ≡ l.used = length-take-le l.used xs c.requires.fits in
-    let b : at < l.used = omega (arith, c.requires.there) in
-    let end : at ≤ l.used - 1 = omega arith in
-    let i : c.loop-i.i ≡ l.used - 1 = omega (arith, c.loop-i.auto.i-end end, c.loop-i-test.false) in
-    record {
-      message = λ d. ap (λ z. z.message) (get_or_default xs at _ d (omega (arith, b, c.requires.fits)) ∙ sym (get_or-take l.used xs at d b));
-      closed = record {
-        fits = omega (arith, inv.0, c.requires.fits);
-        keeps = ap (λ z. take z c.loop-i.self.places.now) (sym i) ∙ inv.1 ∙ ap (λ z. take z (remove xs at)) i ∙ removed_front xs at l.used b c.requires.fits;
-        has_room = inv.0;
-      };
-    }
+    gap_closed l.places.now _ c.args.at l.used (omega (arith, c.requires.there, length-take-le l.used l.places.now l.fits)) l.fits c.copy_within.ensures.after

@@ -1,7 +1,0 @@
-use Rattle.std.proofs.Common.{sym, ◌∙◌}
-use Rattle.line.specs.Kept.{kept}
-use Rattle.line.proofs.Joins.{total-picked}
-use Rattle.line.proofs.wire.LineWire.total.Goals as goal
-
-pub returns : goal.returns
-returns c = let s = c.args.self.now in c.len.ensures ∙ sym (total-picked s.boards (kept s.letters) s.joined)
