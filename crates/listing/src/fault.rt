@@ -39,7 +39,7 @@ impl Refusal {
             Refusal::Names => 2,
             Refusal::Values => 3,
             Refusal::Code => 4,
-            Refusal::Pack(inner) => inner.number(),
+            Refusal::Pack(inner) => u8::from(inner),
         }
     }
 }

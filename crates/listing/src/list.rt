@@ -15,7 +15,7 @@ use pack::pack::Pack;
 use tally::Tally;
 use text::reader::Reader;
 use text::writer::Writer;
-use wire::wire::Wire;
+use wire::Wire;
 
 // The most bytes of a file, and the least of a listing's place.
 pub const MOST_INPUT: usize = 60_000;
@@ -29,8 +29,8 @@ fn answers<W: Wire, T: Tally>(
     writer: &mut Writer<'_>,
 )
     requires { given reader.old ≡ 0 }
-    ensures text { Wrote writer.old writer.new (from_line_1 (memory pack.old) (lines (left reader.old)) (state W.width W.capacity W.waiting pack.old)).0 }
-    ensures pack { state W.width W.capacity W.waiting pack.new ≡ (from_line_1 (memory pack.old) (lines (left reader.old)) (state W.width W.capacity W.waiting pack.old)).1 }
+    ensures text { Wrote writer.old writer.new (from_line_1 (memory pack.old) (lines (left reader.old)) (state W.means pack.old)).0 }
+    ensures pack { state W.means pack.new ≡ (from_line_1 (memory pack.old) (lines (left reader.old)) (state W.means pack.old)).1 }
 {
     match script(pack, reader, writer) {
         Ok(()) => {}
@@ -44,9 +44,9 @@ fn write_listing<W: Wire, T: Tally>(
     input: &[u8],
     writer: &mut Writer<'_>,
 )
-    ensures text { Wrote writer.old writer.new (listing (memory pack.old) input.now (state W.width W.capacity W.waiting pack.old)) }
-    ensures pack { state W.width W.capacity W.waiting pack.new ≡ pack_after (memory pack.old) input.now (state W.width W.capacity W.waiting pack.old) }
-    ensures words { Words (state W.width W.capacity W.waiting pack.new).result }
+    ensures text { Wrote writer.old writer.new (listing (memory pack.old) input.now (state W.means pack.old)) }
+    ensures pack { state W.means pack.new ≡ pack_after (memory pack.old) input.now (state W.means pack.old) }
+    ensures words { Words (state W.means pack.new).result }
 {
     let mut reader = Reader::over(input);
     writer.text(b"line answer\n");
@@ -58,11 +58,11 @@ fn write_listing<W: Wire, T: Tally>(
 
 // As much of the listing as the place has room for.
 fn fill<W: Wire, T: Tally>(pack: &mut Pack<'_, W, T>, input: &[u8], place: &mut [u8]) -> usize
-    ensures front { take result place.new ≡ take (length place.old) (listing (memory pack.old) input.now (state W.width W.capacity W.waiting pack.old)) }
+    ensures front { take result place.new ≡ take (length place.old) (listing (memory pack.old) input.now (state W.means pack.old)) }
     ensures behind { drop result place.new ≡ drop result place.old }
     ensures within { result ≤ length place.new }
-    ensures pack { state W.width W.capacity W.waiting pack.new ≡ pack_after (memory pack.old) input.now (state W.width W.capacity W.waiting pack.old) }
-    ensures words { Words (state W.width W.capacity W.waiting pack.new).result }
+    ensures pack { state W.means pack.new ≡ pack_after (memory pack.old) input.now (state W.means pack.old) }
+    ensures words { Words (state W.means pack.new).result }
 {
     let mut writer = Writer::over(place);
     write_listing(pack, input, &mut writer);
@@ -79,8 +79,8 @@ pub fn list<W: Wire, T: Tally>(
 ) -> Result<usize, Refusal>
     ensures { MatchResult result
         (λ n. (too_large (length input.now) (length place.old) ≡ false)
-        × Listed (listing (memory pack.old) input.now (state W.width W.capacity W.waiting pack.old)) place.old place.new n
-        × (state W.width W.capacity W.waiting pack.new ≡ pack_after (memory pack.old) input.now (state W.width W.capacity W.waiting pack.old)))
+        × Listed (listing (memory pack.old) input.now (state W.means pack.old)) place.old place.new n
+        × (state W.means pack.new ≡ pack_after (memory pack.old) input.now (state W.means pack.old)))
         (λ e. (too_large (length input.now) (length place.old) ≡ true) × (e ≡ Size) × (place.new ≡ place.old) × (pack.new ≡ pack.old)) }
 {
     if input.len() > MOST_INPUT {

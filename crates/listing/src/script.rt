@@ -15,11 +15,11 @@ use pack::pack::Pack;
 use tally::Tally;
 use text::reader::Reader;
 use text::writer::Writer;
-use wire::wire::Wire;
+use wire::Wire;
 
 // The call of a line, where its code names one.
 fn perform<W: Wire, T: Tally>(pack: &mut Pack<'_, W, T>, row: Row) -> Result<u32, Refusal>
-    ensures { (state W.width W.capacity W.waiting pack.new, result) ≡ performed (call_of row) (state W.width W.capacity W.waiting pack.old) }
+    ensures { (state W.means pack.new, result) ≡ performed (call_of row) (state W.means pack.old) }
 {
     let Some(call) = row.call() else {
         return Err(Refusal::Code);
@@ -33,8 +33,8 @@ fn calls<W: Wire, T: Tally>(
     reader: &mut Reader<'_>,
     writer: &mut Writer<'_>,
 ) -> Result<(), LineFault>
-    ensures text { Toward writer.old writer.new (ending result) (call_lines (given reader.old + 1) (lines (left reader.old)) (state W.width W.capacity W.waiting pack.old)).0 }
-    ensures pack { state W.width W.capacity W.waiting pack.new ≡ (call_lines (given reader.old + 1) (lines (left reader.old)) (state W.width W.capacity W.waiting pack.old)).1 }
+    ensures text { Toward writer.old writer.new (ending result) (call_lines (given reader.old + 1) (lines (left reader.old)) (state W.means pack.old)).0 }
+    ensures pack { state W.means pack.new ≡ (call_lines (given reader.old + 1) (lines (left reader.old)) (state W.means pack.old)).1 }
 {
     while let Some(line) = reader.next_line() {
         let Some(row) = Row::of(line) else {
@@ -56,8 +56,8 @@ pub(crate) fn script<W: Wire, T: Tally>(
     writer: &mut Writer<'_>,
 ) -> Result<(), LineFault>
     requires { given reader.old ≡ 0 }
-    ensures text { Toward writer.old writer.new (ending result) (from_line_1 (memory pack.old) (lines (left reader.old)) (state W.width W.capacity W.waiting pack.old)).0 }
-    ensures pack { state W.width W.capacity W.waiting pack.new ≡ (from_line_1 (memory pack.old) (lines (left reader.old)) (state W.width W.capacity W.waiting pack.old)).1 }
+    ensures text { Toward writer.old writer.new (ending result) (from_line_1 (memory pack.old) (lines (left reader.old)) (state W.means pack.old)).0 }
+    ensures pack { state W.means pack.new ≡ (from_line_1 (memory pack.old) (lines (left reader.old)) (state W.means pack.old)).1 }
 {
     expect_names(reader, 1, b"boards cells entries credit\n")?;
     let settings = expect_settings(reader, 2)?;

@@ -9,7 +9,7 @@ ghost use Rattle.boards.specs.Models.{model, Changed};
 use super::Core;
 use crate::flat::{store_in, wipe_in};
 use theory::memory::{Cell, Entry, Ref};
-use wires::Wire;
+use wire::Wire;
 
 impl<W: Wire> Core<'_, W> {
     // So many cells from a place on become the value 0.

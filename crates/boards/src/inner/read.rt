@@ -7,7 +7,7 @@ use super::Core;
 use crate::board::BoardView;
 use crate::flat::part;
 use crate::registers::Registers;
-use wires::Wire;
+use wire::Wire;
 
 impl<'a, W: Wire> Core<'a, W> {
     // The board of a number, where there is one.

@@ -12,7 +12,7 @@ use queue::queues::Queues;
 use theory::fault::PackFault;
 use theory::memory::{Cell, Entry};
 use theory::state::{Figures, Lead, Settings};
-use wires::Wire;
+use wire::Wire;
 
 impl<'a, W: Wire> Core<'a, W> {
     // No board yet.

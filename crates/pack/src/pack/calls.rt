@@ -11,7 +11,7 @@ use boards::board::BoardView;
 use tally::Tally;
 use theory::fault::PackFault;
 use theory::memory::Cell;
-use wires::Wire;
+use wire::Wire;
 
 impl<'a, W: Wire, T: Tally> Pack<'a, W, T> {
     // The board that a call names with a slot, where there are both.

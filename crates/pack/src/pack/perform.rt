@@ -7,7 +7,7 @@ use super::Pack;
 use tally::Tally;
 use theory::call::Call;
 use theory::fault::PackFault;
-use wires::Wire;
+use wire::Wire;
 
 impl<W: Wire, T: Tally> Pack<'_, W, T> {
     // Performs a call, and answers how many deliveries it made.

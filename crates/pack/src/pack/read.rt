@@ -10,7 +10,7 @@ use boards::registers::Registers;
 use tally::Tally;
 use theory::memory::{Cell, Entry};
 use theory::state::Figures;
-use wires::Wire;
+use wire::Wire;
 
 impl<W: Wire, T: Tally> Pack<'_, W, T> {
     // The figures of the last collection, or zeros.

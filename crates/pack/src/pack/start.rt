@@ -11,7 +11,7 @@ use boards::ranged::RangedSettings;
 use tally::Tally;
 use theory::fault::PackFault;
 use theory::state::Settings;
-use wires::Wire;
+use wire::Wire;
 
 impl<'a, W: Wire, T: Tally> Pack<'a, W, T> {
     // No board yet: every call is refused until set_up.

@@ -11,7 +11,7 @@ use Rattle.listing.proofs.list.list.Goals as goal
 pub returns : goal.returns
 returns g c =
     let w = g.W.Wire in
-    let s = state w.width w.capacity w.waiting c.args.pack.now in
+    let s = state w.means c.args.pack.now in
     let text = listing (memory c.args.pack.now) c.args.input.now s in
     let f = c.fill.ensures in
     let words = subst (λ (z : State). Words z.result) f.pack f.words in

@@ -12,7 +12,7 @@ pub returns : goal.returns
 unfolding listing pack_after
 returns g c =
     let w = g.W.Wire in
-    let s = state w.width w.capacity w.waiting c.args.pack.now in
+    let s = state w.means c.args.pack.now in
     let brought = memory c.args.pack.now in
     let out = from_line_1 brought (lines (left c.over-reader.result)) s in
     let whole = ap (λ z. from_line_1 brought (lines z) s) c.over-reader.ensures.left in

@@ -18,7 +18,7 @@ returns-in_default-of g c =
     let h = c.in-Some.ensures in
     let r = c.loop-line.reader in
     let e = calls_stop (given r + 1) (lines (left r)) (lines (left c.next_line.new.self)) c.in-Some.line.text.now
-    (state w.width w.capacity w.waiting c.loop-line.pack) h.first (sym c.in_default-of.is ∙ c.of.ensures) in
+    (state w.means c.loop-line.pack) h.first (sym c.in_default-of.is ∙ c.of.ensures) in
     record {
       text = toward_alike inv.0 (ap (λ (o : Out). o.0) e ∙ ap (λ n. answer_line n (Err Values)) (sym h.number));
       pack = sym (ap (λ (o : Out). o.1) e) ∙ inv.1;
@@ -32,9 +32,9 @@ loop-line-preserved g c =
     let r = c.loop-line.reader in
     let rest = lines (left c.next_line.new.self) in
     let a = c.perform-answer.result in
-    let t = state w.width w.capacity w.waiting c.perform-answer.new.pack in
+    let t = state w.means c.perform-answer.new.pack in
     let e = calls_more (given r + 1) (lines (left r)) rest c.in-Some.line.text.now c.in-Some-of.row
-    (state w.width w.capacity w.waiting c.loop-line.pack) t a h.first (sym c.in-Some-of.is ∙ c.of.ensures) c.perform-answer.ensures in
+    (state w.means c.loop-line.pack) t a h.first (sym c.in-Some-of.is ∙ c.of.ensures) c.perform-answer.ensures in
     let next : call_lines (given c.next_line.new.self + 1) rest t ≡ call_lines (given r + 1 + 1) rest t = ap (λ n. call_lines (n + 1) rest t) h.count in (
       toward_more inv.0
           (ap (λ (o : Out). o.0) e ∙ ap (λ n. answer_line n a ++ (call_lines (given r + 1 + 1) rest t).0) (sym h.number)
@@ -48,7 +48,7 @@ returns g c =
     let w = g.W.Wire in
     let inv = c.loop-line.invariant in
     let r = c.loop-line.reader in
-    let e = calls_none (given r + 1) (lines (left r)) (state w.width w.capacity w.waiting c.loop-line.pack) c.in_default.ensures.no_lines in
+    let e = calls_none (given r + 1) (lines (left r)) (state w.means c.loop-line.pack) c.in_default.ensures.no_lines in
     record {
       text = toward_alike inv.0 (ap (λ (o : Out). o.0) e);
       pack = sym (ap (λ (o : Out). o.1) e) ∙ inv.1;

@@ -13,7 +13,7 @@ use Rattle.listing.proofs.script.script.Goals as goal
 pub returns-in_err-expect_names : goal.returns-in_err-expect_names
 returns-in_err-expect_names g c =
     let w = g.W.Wire in
-    let s = state w.width w.capacity w.waiting c.args.pack.now in
+    let s = state w.means c.args.pack.now in
     let ls = lines (left c.args.reader.now) in
     let brought = memory c.args.pack.now in
     let h = c.in_err-expect_names.ensures in
@@ -27,7 +27,7 @@ returns-in_err-expect_names g c =
 pub returns-in_err-settings : goal.returns-in_err-settings
 returns-in_err-settings g c =
     let w = g.W.Wire in
-    let s = state w.width w.capacity w.waiting c.args.pack.now in
+    let s = state w.means c.args.pack.now in
     let ls = lines (left c.args.reader.now) in
     let brought = memory c.args.pack.now in
     let one = c.in_ok-expect_names.ensures in
@@ -42,8 +42,8 @@ returns-in_err-settings g c =
 pub returns-in_err-on_line : goal.returns-in_err-on_line
 returns-in_err-on_line g c =
     let w = g.W.Wire in
-    let s = state w.width w.capacity w.waiting c.args.pack.now in
-    let t = state w.width w.capacity w.waiting c.set_up.new.self in
+    let s = state w.means c.args.pack.now in
+    let t = state w.means c.set_up.new.self in
     let ls = lines (left c.args.reader.now) in
     let brought = memory c.args.pack.now in
     let one = c.in_ok-expect_names.ensures in
@@ -61,8 +61,8 @@ returns-in_err-on_line g c =
 pub returns-in_err-expect_names-2 : goal.returns-in_err-expect_names-2
 returns-in_err-expect_names-2 g c =
     let w = g.W.Wire in
-    let s = state w.width w.capacity w.waiting c.args.pack.now in
-    let t = state w.width w.capacity w.waiting c.set_up.new.self in
+    let s = state w.means c.args.pack.now in
+    let t = state w.means c.set_up.new.self in
     let ls = lines (left c.args.reader.now) in
     let brought = memory c.args.pack.now in
     let one = c.in_ok-expect_names.ensures in
@@ -83,8 +83,8 @@ returns-in_err-expect_names-2 g c =
 pub returns : goal.returns
 returns g c =
     let w = g.W.Wire in
-    let s = state w.width w.capacity w.waiting c.args.pack.now in
-    let t = state w.width w.capacity w.waiting c.set_up.new.self in
+    let s = state w.means c.args.pack.now in
+    let t = state w.means c.set_up.new.self in
     let ls = lines (left c.args.reader.now) in
     let brought = memory c.args.pack.now in
     let one = c.in_ok-expect_names.ensures in
