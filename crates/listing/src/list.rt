@@ -32,9 +32,8 @@ fn answers<W: Wire, T: Tally>(
     ensures text { Wrote writer.old writer.new (from_line_1 (memory pack.old) (lines (left reader.old)) (state W.means pack.old)).0 }
     ensures pack { state W.means pack.new ≡ (from_line_1 (memory pack.old) (lines (left reader.old)) (state W.means pack.old)).1 }
 {
-    match script(pack, reader, writer) {
-        Ok(()) => {}
-        Err(fault) => answer_line(writer, fault.line, Err(fault.refusal)),
+    if let Err(fault) = script(pack, reader, writer) {
+        answer_line(writer, fault.line, Err(fault.refusal));
     }
 }
 

@@ -21,9 +21,7 @@ use wire::Wire;
 fn perform<W: Wire, T: Tally>(pack: &mut Pack<'_, W, T>, row: Row) -> Result<u32, Refusal>
     ensures { (state W.means pack.new, result) ≡ performed (call_of row) (state W.means pack.old) }
 {
-    let Some(call) = row.call() else {
-        return Err(Refusal::Code);
-    };
+    let call = row.call().ok_or(Refusal::Code)?;
     Ok(pack.perform(call)?)
 }
 

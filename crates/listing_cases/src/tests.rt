@@ -1,17 +1,23 @@
 use crate::cases::{Case, call_line, calls, names, settings, settings_line};
-use crate::harness::listing_of;
+use crate::harness::{listing_of, listing_over_chains};
 use listing::fault::Refusal;
 use listing::list::MOST_INPUT;
 use std::alloc::Global;
 use std::process::Abort;
 use std::test::Fail;
 
+fn is_listing(rt: &impl Abort, answer: Result<Vec<u8>, Refusal>, case: &Case) {
+    match answer {
+        Ok(listing) => assert!(rt; &listing[..] == case.listing, "{}", case.name),
+        Err(_) => assert!(rt; false, "{}", case.name),
+    }
+}
+
+// A file's listing is the one that the case gives, over either wire.
 fn every(rt: &impl Abort, heap: Global, cases: &[Case]) -> Result<(), Fail> {
     for case in cases {
-        match listing_of(heap, case.input)? {
-            Ok(listing) => assert!(rt; &listing[..] == case.listing, "{}", case.name),
-            Err(_) => assert!(rt; false, "{}", case.name),
-        }
+        is_listing(rt, listing_of(heap, case.input)?, case);
+        is_listing(rt, listing_over_chains(heap, case.input)?, case);
     }
     Ok(())
 }
@@ -43,14 +49,6 @@ fn a_file_has_at_most_so_many_bytes(rt: HostRuntime) -> Result<(), Fail> {
         Err(_) => assert!(rt; false),
     }
     file.push(b'\n')?;
-    match listing_of(heap, &file)? {
-        Ok(_) => {
-            assert!(rt; false);
-            Ok(())
-        },
-        Err(refusal) => {
-            assert!(rt; refusal == Refusal::Size);
-            Ok(())
-        },
-    }
+    assert_eq!(rt; listing_of(heap, &file)?.err(), Some(Refusal::Size));
+    Ok(())
 }
