@@ -1,4 +1,5 @@
-// Changes of one board.
+// Changes of one board, by its number. Each asks that there is such a board: a type that carried the fact would
+// have to carry the core as well, since another core may have fewer boards.
 ghost use Rattle.std.specs.Prelude.{◌≡◌, ◌+◌, ◌<◌, ◌≤◌, slice_set};
 ghost use Rattle.theory.specs.declared.memory.Cell.TheVariants.{Value};
 ghost use Rattle.theory.specs.Lists.{tail, wiped};
@@ -35,6 +36,7 @@ impl<W: Wire> Core<'_, W> {
         requires { b < self.old.settings.boards }
         ensures { Changed W.means self.old self.new b (λ x. with_slots (slice_set x.slots slot v) x) }
     {
+        // copied out and back: a call on an element of a field that a ghost field speaks of gets no proof
         let mut registers = self.registers[b as usize];
         registers.put_slot(slot, v);
         self.registers[b as usize] = registers;

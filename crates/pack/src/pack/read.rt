@@ -33,22 +33,14 @@ impl<W: Wire, T: Tally> Pack<'_, W, T> {
         ensures { result ≡ item (λ x. x.cells) (state W.means self.now).settings.cells (Value 0) board at (state W.means self.now) }
     {
         let x = self.core.board(board)?;
-        if at < self.core.settings.cells {
-            Some(x.cell(at))
-        } else {
-            None
-        }
+        (at < self.core.settings.cells).then_some(x.cell(at))
     }
 
     pub fn entry(&self, board: u32, entry: u32) -> Option<Entry>
         ensures { result ≡ item (λ x. x.entries) (state W.means self.now).settings.entries no_entry board entry (state W.means self.now) }
     {
         let x = self.core.board(board)?;
-        if entry < self.core.settings.entries {
-            Some(x.entry(entry))
-        } else {
-            None
-        }
+        (entry < self.core.settings.entries).then_some(x.entry(entry))
     }
 
     // The number of a free entry, by its place in the queue of those.
