@@ -1,5 +1,5 @@
 -- Queues over the parts of one list: what a call at one of them finds, and what it makes of all.
-use Rattle.std.proofs.Common.{◌≡◌, ℕ, ◌+◌, ◌-◌, ◌*◌, ◌<◌, ◌≤◌, Bool, true, false, cond, ◌&&◌, ◌⊎◌, List, [], ◌∷◌, ◌++◌, length, get_or, set, sym, refl, ap, ◌∙◌, ap₂, inl, inr, zero-le, arith}
+use Rattle.std.proofs.Common.{◌≡◌, ℕ, ◌+◌, ◌-◌, ◌*◌, ◌<◌, ◌≤◌, Bool, true, false, cond, ◌⊎◌, List, [], ◌∷◌, ◌++◌, length, get_or, set, sym, refl, ap, ◌∙◌, ap₂, inl, inr, zero-le, arith}
 use borrow.Rule.Slice.PartMut.{put_mid}
 use mathlib.Core.Path.{fun_ext}
 use Rattle.std.specs.List.{between}
@@ -14,7 +14,7 @@ use Rattle.queue.specs.declared.ring.Ring.{Ring}
 use Rattle.queue.specs.Pushes.{pushed, has_room, has_room_at, pushed_at}
 use Rattle.queue.specs.Rings.{items, no_ring}
 use Rattle.queue.specs.QueuesOf.{queue_at, queues}
-use Rattle.queue.proofs.Rings.{length-items, items_none}
+use Rattle.queue.proofs.Rings.{length-items, items_none, head_none}
 
 -- where every ring is empty
 pub queues_none : {T : Type 0} (rings : List Ring) (count each : ℕ) (xs : List T) → ((k : ℕ) → k < count → (get_or rings k no_ring).len ≡ 0)
@@ -108,3 +108,6 @@ queue_within q b = go (cases_lt b q.count)
     go : (b < q.count) ⊎ (q.count ≤ b) → length (queues q b) ≤ q.each
     go (inl l) = omega (arith, length_queue q b l no_ring, ring-room q b l no_ring, (get_or q.rings b no_ring).within.1)
     go (inr h) = rw (queue_past q b h) zero-le
+
+-- what the calls of queues take
+pub ruleset queue_parts = (queue_past, length_queue, ring-room, length-lent, lent_is, queues_put, pushed_put, queues_none, head_none, put_own)

@@ -2,6 +2,7 @@
 use Rattle.std.proofs.Common.{◌≡◌, ℕ, ◌+◌, ◌-◌, ◌≤◌, List, [], ◌∷◌, ◌++◌, length, get_or, set, Option, Some, None, MatchOption, sym, refl, ap, ◌∙◌, ap₂, arith}
 use Rattle.std.specs.List.{slice_get}
 use Rattle.std.proofs.lemmas.Option.{slice_get_read, slice_get_past}
+use Rattle.std.proofs.lemmas.Bool.{lt-ltb, le-ltb}
 use Rattle.theory.specs.Lists.{ring, head, tail}
 use Rattle.theory.proofs.Rings.{length-ring, ring_none}
 use Rattle.queue.specs.declared.ring.Ring.{Ring}
@@ -47,3 +48,6 @@ module _ {T : Type 0} where
 
     pub slice_get_missing : (i : ℕ) → r.len ≤ i → slice_get (items xs r) i ≡ None
     slice_get_missing i h = slice_get_past (items xs r) i (omega (arith, length-items))
+
+-- what the calls of a ring with its places take
+pub ruleset ring_items = (length-items, items_none, items-pushed, items_popped, items_rest, slice_get_placed, slice_get_missing, head_none, lt-ltb, le-ltb)

@@ -8,6 +8,7 @@ use super::Queue;
 use crate::Full;
 use crate::ring::Ring;
 
+#[tactic(auto, using(crate::proofs::Rings::ring_items))]
 impl<'a, T: Copy> Queue<'a, T> {
     // An empty queue with as many places as were lent.
     pub fn over(places: &'a mut [T]) -> Queue<'a, T>

@@ -10,6 +10,7 @@ use super::Queues;
 use crate::ring::Ring;
 use crate::{Full, TooSmall};
 
+#[tactic(auto, using(crate::proofs::QueuesOf::queue_parts))]
 impl<'a, T: Copy> Queues<'a, T> {
     // No queue yet.
     pub fn over(places: &'a mut [T]) -> Queues<'a, T>

@@ -7,6 +7,7 @@ ghost use Rattle.queue.specs.Rings.{items};
 use super::Ring;
 use crate::Full;
 
+#[tactic(auto, using(crate::proofs::Rings::ring_items))]
 impl Ring {
     // The item at i, in order.
     pub(crate) fn item<T: Copy>(&self, places: &[T], i: usize) -> Option<T>

@@ -1,26 +1,10 @@
 use Rattle.std.proofs.Common.{get_or, sym, refl, ap, ◌∙◌}
 use Rattle.theory.specs.Functions.{put}
 use Rattle.theory.specs.Lists.{parts, head, tail}
-use Rattle.theory.proofs.Functions.{put_own}
 use Rattle.queue.specs.QueuesOf.{queues}
-use Rattle.queue.proofs.Rings.{items_rest, head_none}
-use Rattle.queue.proofs.QueuesOf.{queue_past, queue_is, length-part, queues_changed}
+use Rattle.queue.proofs.Rings.{items_rest}
+use Rattle.queue.proofs.QueuesOf.{queue_is, length-part, queues_changed}
 use Rattle.queue.proofs.queues.Queues.pop.Goals as goal
-
-pub returns-then-b-self-clause-answer : goal.returns-then-b-self-clause-answer
-returns-then-b-self-clause-answer g c = sym (ap head (queue_past c.args.self.now c.args.b c.if-b-self.true))
-
-pub returns-then-b-self-clause-after : goal.returns-then-b-self-clause-after
-returns-then-b-self-clause-after g c =
-    let q = c.args.self.now in
-    let e = queue_past q c.args.b c.if-b-self.true in
-    put_own (queues q) c.args.b (tail (queues q c.args.b)) (e ∙ sym (ap tail e))
-
-pub returns-in_err-x-clause-after : goal.returns-in_err-x-clause-after
-returns-in_err-x-clause-after g c =
-    let q = c.args.self.now in
-    let e = head_none (queues q c.args.b) (sym c.first.ensures ∙ c.in_err-x.was) in
-    put_own (queues q) c.args.b (tail (queues q c.args.b)) (e ∙ sym (ap tail e))
 
 pub returns-clause-after : goal.returns-clause-after
 returns-clause-after g c =
@@ -31,4 +15,5 @@ returns-clause-after g c =
     let e = queue_is q b l d in
     let first = ap head e ∙ sym c.first.ensures ∙ c.in_ok-x.was in
     queues_changed q b l d c.pop.new.self q.places.now (λ j ne. refl)
-    ∙ ap (put (queues q) b) (items_rest (parts q.places.now q.each b) (get_or q.rings b d) (length-part q b l d) c.pop.new.self c.pop.result c.in_ok-x.x c.pop.ensures first ∙ ap tail e)
+    ∙ ap (put (queues q) b)
+    (items_rest (parts q.places.now q.each b) (get_or q.rings b d) (length-part q b l d) c.pop.new.self c.pop.result c.in_ok-x.x c.pop.ensures first ∙ ap tail e)
