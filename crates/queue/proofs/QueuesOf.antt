@@ -101,6 +101,12 @@ module _ {T : Type 0} (q : Queues T) (b : ℕ) where
           queues_changed s zs (is_other (parts xs q.each) (parts zs q.each) b ys h)
           ∙ ap (λ z. put (queues q) b (items z s)) (is_same (parts xs q.each) (parts zs q.each) b ys h)
 
+      -- and its items are those of a push
+      pub queues-pushed : (x : T) (s : Ring) (ys : List T) → length ys ≡ length part → items ys s ≡ pushed r.room x (items part r)
+          → masked q.count [] (queue_at (set q.rings b s) q.each (put_mid from (from + q.each - from) q.places.now ys)) ≡ pushed_at q.count q.each b x (queues q)
+      queues-pushed x s ys n h =
+          queues_put s ys n ∙ ap (put (queues q) b) (h ∙ ap₂ (λ k z. pushed k x z) ring-room lent_is) ∙ pushed_put q.count q.each b x (queues q) l
+
 -- no queue holds more than its room
 pub queue_within : {T : Type 0} (q : Queues T) (b : ℕ) → length (queues q b) ≤ q.each
 queue_within q b = go (cases_lt b q.count)
@@ -110,4 +116,4 @@ queue_within q b = go (cases_lt b q.count)
     go (inr h) = rw (queue_past q b h) zero-le
 
 -- what the calls of queues take
-pub ruleset queue_parts = (queue_past, length_queue, ring-room, length-lent, lent_is, queues_put, pushed_put, queues_none, head_none, put_own)
+pub ruleset queue_parts = (queue_past, length_queue, length-lent, lent_is, queues_none, head_none, put_own)

@@ -98,6 +98,7 @@ impl<'a, T: Copy> Queues<'a, T> {
         }
         let from = self.start(b);
         let to = from + self.each;
+        // by a copy: Rattle proves no call on an element that a ghost field speaks of
         let mut ring = self.rings[b];
         let pushed = ring.push_into(&mut self.places[from..to], x);
         self.rings[b] = ring;
@@ -116,6 +117,7 @@ impl<'a, T: Copy> Queues<'a, T> {
             return None;
         }
         let x = self.first(b)?;
+        // by a copy, as in `push`
         let mut rest = self.rings[b];
         let _ = rest.pop();
         self.rings[b] = rest;

@@ -1,12 +1,17 @@
-use Rattle.std.proofs.Common.{◌+◌, ◌-◌, set, refl, ap, ◌∙◌}
+use Rattle.std.proofs.Common.{◌+◌, ◌-◌, set, refl, ap, ◌∙◌, arith}
 use borrow.Rule.Slice.Mut.{set_vals}
 use borrow.Rule.Slice.PartMut.{put_mid, put_same}
 use Rattle.std.proofs.lemmas.Bool.{ltb-false}
 use Rattle.std.proofs.lemmas.List.{set-get_or}
 use Rattle.queue.specs.Pushes.{push_answer}
-use Rattle.queue.proofs.QueuesOf.{has_room_lent}
+use Rattle.queue.proofs.QueuesOf.{has_room_lent, queues-pushed}
 use Rattle.queue.proofs.Same.{same_queues}
 use Rattle.queue.proofs.queues.Queues.push.Goals as goal
+
+pub returns-clause-after : goal.returns-clause-after
+returns-clause-after g c =
+    let p = c.push_into-pushed in
+    queues-pushed c.args.self.now c.args.b c.if-b-self.false c.index-self-b.result c.start-from.result c.start-from.ensures.is c.args.x p.new.self p.new.places (omega arith) p.ensures.after
 
 pub returns-clause-answer : goal.returns-clause-answer
 returns-clause-answer g c =
