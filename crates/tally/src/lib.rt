@@ -20,6 +20,7 @@ pub trait Tally {
 
     ghost joined: { ℕ → ℕ → ℕ };
 
+    // START, by a call.
     fn first() -> u64
         ensures { result ≡ START }
     {

@@ -1,4 +1,4 @@
-use Rattle.std.proofs.Common.{replicate, ap, ◌∙◌, arith}
+use Rattle.std.proofs.Common.{◌*◌, ◌≤◌, length, replicate, ap, ◌∙◌, arith}
 use Rattle.std.proofs.lemmas.List.{get_or-replicate}
 use Rattle.std.proofs.lemmas.Bool.{and_from, le-leb}
 use Rattle.queue.specs.Rings.{no_ring}
@@ -8,6 +8,8 @@ use Rattle.queue.proofs.queues.Queues.lay_out.Goals as goal
 pub returns-clause-after : goal.returns-clause-after
 returns-clause-after g c =
     let r = c.new-self.result in
-    rw (and_from _ _ (le-leb _ _ c.if-count-gt16.false) (le-leb _ _ c.if-count-each.false))
+    let few : c.args.count ≤ 16 = omega arith in
+    let fits : c.args.count * c.args.each ≤ length c.args.self.now.places.now = omega arith in
+    rw (and_from _ _ (le-leb _ _ few) (le-leb _ _ fits))
     (queues_none (replicate 16 r) c.args.count c.args.each c.args.self.now.places.now
     (λ k l. ap (λ s. s.len) (get_or-replicate 16 k r no_ring (omega arith)) ∙ c.new-self.ensures.len))
