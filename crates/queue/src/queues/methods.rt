@@ -98,7 +98,7 @@ impl<'a, T: Copy> Queues<'a, T> {
         }
         let from = self.start(b);
         let to = from + self.each;
-        // by a copy: Rattle proves no call on an element that a ghost field speaks of
+        // by a copy (tried without): in a struct with ghost fields, a call on an element by `&mut` gets no proof
         let mut ring = self.rings[b];
         let pushed = ring.push_into(&mut self.places[from..to], x);
         self.rings[b] = ring;
