@@ -44,10 +44,7 @@ impl Purse {
         ensures answer { result ≡ (if nat_lt self.old.have n then Err (record {}) else Ok tt) }
         ensures refused { self.old.have < n → self.new ≡ self.old }
     {
-        if self.have < n {
-            return Err(Short);
-        }
-        self.have -= n;
+        self.have = self.have.checked_sub(n).ok_or(Short)?;
         Ok(())
     }
 
@@ -56,7 +53,6 @@ impl Purse {
         ensures most { self.new.most ≡ self.old.most }
         ensures have { self.new.have ≡ min (self.old.have + n) self.old.most }
     {
-        let room = self.most - self.have;
-        self.have += n.min(room);
+        self.have = self.have.saturating_add(n).min(self.most);
     }
 }

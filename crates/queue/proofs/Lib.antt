@@ -1,3 +1,4 @@
 pub mod Places
 pub mod QueuesOf
 pub mod Rings
+pub mod Same

@@ -13,13 +13,6 @@ pub place_high : (room first i : ℕ) → room - first ≤ i → place_at room f
 unfolding place_at
 place_high room first i h = rw (le-ltb i (room - first) h)
 
-pub place_within : (room first i : ℕ) → first ≤ room → i < room → place_at room first i < room
-place_within room first i f h = go (cases_lt i (room - first))
-  where
-    go : (i < room - first) ⊎ (room - first ≤ i) → place_at room first i < room
-    go (inl l) = omega (arith, place_low room first i l)
-    go (inr l) = omega (arith, place_high room first i l)
-
 module _ {T : Type 0} (xs : List T) (room first len : ℕ) (n : length xs ≡ room) (f : first ≤ room) where
   pub ring-pushed : (x : T) → len < room → ring (set xs (place_at room first len) x) first (len + 1) ≡ ring xs first len ++ x ∷ []
   ring-pushed x h =

@@ -1,28 +1,20 @@
 -- Queues over the parts of one list: what a call at one of them finds, and what it makes of all.
-use Rattle.std.proofs.Common.{◌≡◌, ℕ, ◌+◌, ◌*◌, ◌<◌, ◌≤◌, true, false, ◌⊎◌, List, [], ◌∷◌, ◌++◌, length, get_or, set, Some, None, sym, ap, ◌∙◌, ap₂, inl, inr, zero-le, arith, length-set}
+use Rattle.std.proofs.Common.{◌≡◌, ℕ, ◌+◌, ◌-◌, ◌*◌, ◌<◌, ◌≤◌, Bool, true, false, cond, ◌⊎◌, List, [], ◌∷◌, ◌++◌, length, get_or, set, sym, refl, ap, ◌∙◌, ap₂, inl, inr, zero-le, arith}
+use borrow.Rule.Slice.PartMut.{put_mid}
 use mathlib.Core.Path.{fun_ext}
-use Rattle.std.specs.List.{slice_get}
+use Rattle.std.specs.List.{between}
 use Rattle.std.proofs.lemmas.List.{get_or-set_same, get_or-set_other, get_or_default}
-use Rattle.std.proofs.lemmas.Bool.{cases_lt, lt-ltb, le-ltb, le-leb, lt-leb, and_from, and_right}
+use Rattle.std.proofs.lemmas.Bool.{cases_lt, lt-ltb}
 use Rattle.theory.specs.Functions.{put, masked}
-use Rattle.theory.specs.Lists.{parts, tail}
-use Rattle.theory.proofs.Functions.{put_is, put_own, masked_in, masked_out}
-use Rattle.theory.proofs.Parts.{ends_within, length-parts, get_or-parts, parts-set_other, parts-set_same}
+use Rattle.theory.specs.Lists.{parts}
+use Rattle.theory.proofs.Functions.{put_own, masked_in, masked_out, masked-change, is_same, is_other}
+use Rattle.theory.proofs.Parts.{ends_within, length-parts, parts-put}
 use Rattle.queue.specs.declared.queues.Queues.{Queues}
 use Rattle.queue.specs.declared.ring.Ring.{Ring}
-use Rattle.queue.specs.Pushes.{has_room_at}
-use Rattle.queue.specs.Rings.{items, no_ring, Placed, Pushed, Popped}
-use Rattle.queue.specs.QueuesOf.{queue_at, queues, count_of, counted}
-use Rattle.queue.proofs.Rings.{length-items, items_none, items-pushed, items_popped, slice_get_placed, slice_get_missing}
-
--- cut off from n on, a function that differs from f at i alone
-masked-put : {A : Type 0} (n : ℕ) (d : A) (f g : ℕ → A) (i : ℕ) (a : A) → i < n → ((j : ℕ) → j < n → (j ≡ i → ⊥) → g j ≡ f j) → g i ≡ a
-    → masked n d g ≡ put (masked n d f) i a
-masked-put n d f g i a l same here = put_is (masked n d f) (masked n d g) i a (λ j ne. go j ne (cases_lt j n)) (masked_in n d g i l ∙ here)
-  where
-    go : (j : ℕ) → (j ≡ i → ⊥) → (j < n) ⊎ (n ≤ j) → masked n d g j ≡ masked n d f j
-    go j ne (inl h) = masked_in n d g j h ∙ same j h ne ∙ sym (masked_in n d f j h)
-    go j ne (inr h) = masked_out n d g j h ∙ sym (masked_out n d f j h)
+use Rattle.queue.specs.Pushes.{pushed, has_room, has_room_at, pushed_at}
+use Rattle.queue.specs.Rings.{items, no_ring}
+use Rattle.queue.specs.QueuesOf.{queue_at, queues}
+use Rattle.queue.proofs.Rings.{length-items, items_none, head_none}
 
 -- where every ring is empty
 pub queues_none : {T : Type 0} (rings : List Ring) (count each : ℕ) (xs : List T) → ((k : ℕ) → k < count → (get_or rings k no_ring).len ≡ 0)
@@ -33,123 +25,95 @@ queues_none rings count each xs none = fun_ext (λ k. go k (cases_lt k count))
     go k (inl l) = masked_in count [] (queue_at rings each xs) k l ∙ items_none (parts xs each k) (get_or rings k no_ring) (none k l)
     go k (inr h) = masked_out count [] (queue_at rings each xs) k h
 
-pub counted_all : (lent count places : ℕ) → lent ≤ places → counted lent count places ≡ count
-unfolding counted
-counted_all lent count places h = rw (le-leb lent places h)
-
-pub counted_none : (lent count places : ℕ) → places < lent → counted lent count places ≡ 0
-unfolding counted
-counted_none lent count places h = rw (lt-leb lent places h)
-
--- where a queue is there, the layout is whole
-counted_some : (lent count places b : ℕ) → b < counted lent count places → (lent ≤ places) × (counted lent count places ≡ count)
-counted_some lent count places b l = go (cases_lt places lent)
+-- a push at queue b, which is there
+pub pushed_put : {T : Type 0} (count each b : ℕ) (x : T) (f : ℕ → List T) → b < count → put f b (pushed each x (f b)) ≡ pushed_at count each b x f
+pushed_put count each b x f l = rw (lt-ltb b count l) (go (has_room each (f b)))
   where
-    go : (places < lent) ⊎ (lent ≤ places) → (lent ≤ places) × (counted lent count places ≡ count)
-    go (inl h) = absurd (omega (arith, l, counted_none lent count places h))
-    go (inr h) = (h, counted_all lent count places h)
+    go : (t : Bool) → put f b (cond t (f b ++ x ∷ []) (f b)) ≡ cond t (put f b (f b ++ x ∷ [])) f
+    go true = refl
+    go false = sym (put_own f b (f b) refl)
 
--- where there is no queue b
-module _ {T : Type 0} (q : Queues T) (b : ℕ) (h : count_of q ≤ b) where
-  pub queue_past : queues q b ≡ []
-  queue_past = masked_out (count_of q) [] (queue_at q.layout.rings q.layout.each q.places.now) b h
+module _ {T : Type 0} (q : Queues T) (b : ℕ) where
+  -- where there is no queue b
+  pub queue_past : q.count ≤ b → queues q b ≡ []
+  queue_past h = masked_out q.count [] (queue_at q.rings q.each q.places.now) b h
 
-  pub queues_kept : queues q ≡ put (queues q) b (tail (queues q b))
-  queues_kept = put_own (queues q) b (tail (queues q b)) (queue_past ∙ sym (ap tail queue_past))
+  -- where there is: d is what the ring was read at, which does not count
+  module _ (l : b < q.count) (d : Ring) where
+    abbrev r : Ring
+    r = get_or q.rings b d
 
--- the part of queue b ends within the places
-pub queue_ends : {T : Type 0} (q : Queues T) (b : ℕ) → b < count_of q → b * q.layout.each + q.layout.each ≤ length q.places.now
-queue_ends q b l =
-    let whole = counted_some q.layout.lent q.layout.count (length q.places.now) b l in
-    omega (arith, whole.0, q.layout.fits.2, ends_within b q.layout.count q.layout.each (omega (arith, l, whole.1)))
+    in_rings : b < length q.rings
+    in_rings = omega (arith, l, q.few, q.sixteen)
 
--- where there is: d is what the ring was read at, which does not count
-module _ {T : Type 0} (q : Queues T) (b : ℕ) (l : b < count_of q) (d : Ring) where
-  abbrev xs : List T
-  xs = q.places.now
+    pub ends : b * q.each + q.each ≤ length q.places.now
+    ends = omega (arith, q.fits, ends_within b q.count q.each l)
 
-  abbrev r : Ring
-  r = get_or q.layout.rings b d
+    is : get_or q.rings b no_ring ≡ r
+    is = get_or_default q.rings b no_ring d in_rings
 
-  lb : b < length q.layout.rings
-  lb =
-      let whole = counted_some q.layout.lent q.layout.count (length xs) b l in
-      omega (arith, l, whole.1, q.layout.fits.1, q.layout.fits.0)
+    pub ring-room : r.room ≡ q.each
+    ring-room = ap (λ s. s.room) (sym is) ∙ q.rooms b (omega (arith, l, q.few))
 
-  is : get_or q.layout.rings b no_ring ≡ r
-  is = get_or_default q.layout.rings b no_ring d lb
+    pub length-part : length (parts q.places.now q.each b) ≡ r.room
+    length-part = length-parts q.places.now q.each b ends ∙ sym ring-room
 
-  within : b * q.layout.each + q.layout.each ≤ length xs
-  within = queue_ends q b l
+    pub queue_is : items (parts q.places.now q.each b) r ≡ queues q b
+    queue_is = sym (masked_in q.count [] (queue_at q.rings q.each q.places.now) b l ∙ ap (items (parts q.places.now q.each b)) is)
 
-  pub ring-room : r.room ≡ q.layout.each
-  ring-room = ap (λ s. s.room) (sym is) ∙ q.layout.rooms b (omega (arith, lb, q.layout.fits.0))
+    pub length_queue : r.len ≡ length (queues q b)
+    length_queue = sym (length-items (parts q.places.now q.each b) r length-part) ∙ ap length queue_is
 
-  room : length (parts xs q.layout.each b) ≡ r.room
-  room = length-parts xs q.layout.each b within ∙ sym ring-room
+    -- the ring is s now, and the places have changed in the part of b alone
+    pub queues_changed : (s : Ring) (ys : List T) → ((j : ℕ) → (j ≡ b → ⊥) → parts ys q.each j ≡ parts q.places.now q.each j)
+        → masked q.count [] (queue_at (set q.rings b s) q.each ys) ≡ put (queues q) b (items (parts ys q.each b) s)
+    queues_changed s ys same =
+        masked-change q.count [] (queue_at q.rings q.each q.places.now) (queue_at (set q.rings b s) q.each ys) b (λ _. items (parts ys q.each b) s) l
+        (λ j ne. ap₂ items (same j ne) (get_or-set_other q.rings b j s no_ring ne))
+        (ap (items (parts ys q.each b)) (get_or-set_same q.rings b s no_ring in_rings))
 
-  here : queues q b ≡ items (parts xs q.layout.each b) r
-  here = masked_in (count_of q) [] (queue_at q.layout.rings q.layout.each xs) b l ∙ ap (items (parts xs q.layout.each b)) is
+    -- the part of b is lent as a slice
+    module _ (from : ℕ) (e : from ≡ b * q.each) where
+      abbrev part : List T
+      part = between from (from + q.each) q.places.now
 
-  pub length_queue : length (queues q b) ≡ r.len
-  length_queue = ap length here ∙ length-items (parts xs q.layout.each b) r room
+      part_is : part ≡ parts q.places.now q.each b
+      unfolding parts
+      part_is = ap (λ k. between k (k + q.each) q.places.now) e
 
-  pub queue_empty : r.len ≡ 0 → queues q b ≡ []
-  queue_empty e = here ∙ items_none (parts xs q.layout.each b) r e
+      pub length-lent : length part ≡ r.room
+      length-lent = ap length part_is ∙ length-part
 
-  -- a pop of an empty queue
-  pub queues_same : r.len ≡ 0 → queues q ≡ put (queues q) b (tail (queues q b))
-  queues_same e = put_own (queues q) b (tail (queues q b)) (queue_empty e ∙ sym (ap tail (queue_empty e)))
+      pub lent_is : items part r ≡ queues q b
+      lent_is = ap (λ z. items z r) part_is ∙ queue_is
 
-  pub slice_get_queue : (i at : ℕ) (x : T) → Placed r i at → x ≡ get_or xs (b * q.layout.each + at) x → slice_get (queues q b) i ≡ Some x
-  slice_get_queue i at x p e =
-      ap (λ z. slice_get z i) here
-      ∙ slice_get_placed (parts xs q.layout.each b) r room i at x p (e ∙ sym (get_or-parts xs q.layout.each b at x (omega (arith, ring-room, p.within))))
+      pub has_room_lent : has_room r.room (items part r) ≡ has_room_at q.count q.each b (queues q)
+      has_room_lent = ap₂ has_room ring-room lent_is ∙ sym (rw (lt-ltb b q.count l) refl)
 
-  pub slice_get_queue_past : (i : ℕ) → r.len ≤ i → slice_get (queues q b) i ≡ None
-  slice_get_queue_past i h = ap (λ z. slice_get z i) here ∙ slice_get_missing (parts xs q.layout.each b) r room i h
+      -- and is ys now, with the ring s
+      pub queues_put : (s : Ring) (ys : List T) → length ys ≡ length part
+          → masked q.count [] (queue_at (set q.rings b s) q.each (put_mid from (from + q.each - from) q.places.now ys)) ≡ put (queues q) b (items ys s)
+      queues_put s ys n =
+          let xs = q.places.now in
+          let zs = put_mid from (from + q.each - from) xs ys in
+          let h : parts zs q.each ≡ put (parts xs q.each) b ys =
+          ap (λ k. parts (put_mid k (k + q.each - k) xs ys) q.each) e ∙ parts-put xs ys q.each b ends (n ∙ length-lent ∙ ring-room) in
+          queues_changed s zs (is_other (parts xs q.each) (parts zs q.each) b ys h)
+          ∙ ap (λ z. put (queues q) b (items z s)) (is_same (parts xs q.each) (parts zs q.each) b ys h)
 
-  pub queues-pushed : (s : Ring) (at : ℕ) (x : T) → Pushed r s at
-      → masked (counted q.layout.lent q.layout.count (length (set xs (b * q.layout.each + at) x))) []
-      (queue_at (set q.layout.rings b s) q.layout.each (set xs (b * q.layout.each + at) x))
-      ≡ put (queues q) b (queues q b ++ x ∷ [])
-  queues-pushed s at x p =
-      simp length-set
-      (masked-put (count_of q) [] (queue_at q.layout.rings q.layout.each xs) (queue_at (set q.layout.rings b s) q.layout.each (set xs (b * q.layout.each + at) x)) b (queues q b ++ x ∷ []) l
-      (λ j lj ne.
-      ap₂ items
-      (parts-set_other xs q.layout.each b at x within less j (queue_ends q j lj) ne)
-      (get_or-set_other q.layout.rings b j s no_ring ne))
-      (ap₂ items (parts-set_same xs q.layout.each b at x within less) (get_or-set_same q.layout.rings b s no_ring lb)
-      ∙ items-pushed (parts xs q.layout.each b) r room s at x p
-      ∙ ap (λ z. z ++ x ∷ []) (sym here)))
-    where
-      less : at < q.layout.each
-      less = omega (arith, ring-room, p.within)
-
-  pub queue_first : (s : Ring) (at : ℕ) (x : T) → Popped r s at → x ≡ get_or xs (b * q.layout.each + at) x
-      → queues q b ≡ x ∷ items (parts xs q.layout.each b) s
-  queue_first s at x p e =
-      here ∙ items_popped (parts xs q.layout.each b) r room s at x p
-      ∙ ap (λ z. z ∷ items (parts xs q.layout.each b) s) (get_or-parts xs q.layout.each b at x (omega (arith, ring-room, p.within)) ∙ sym e)
-
-  pub queues_popped : (s : Ring) (at : ℕ) (x : T) → Popped r s at → x ≡ get_or xs (b * q.layout.each + at) x
-      → masked (count_of q) [] (queue_at (set q.layout.rings b s) q.layout.each xs) ≡ put (queues q) b (tail (queues q b))
-  queues_popped s at x p e =
-      masked-put (count_of q) [] (queue_at q.layout.rings q.layout.each xs) (queue_at (set q.layout.rings b s) q.layout.each xs) b (tail (queues q b)) l
-      (λ j lj ne. ap (items (parts xs q.layout.each j)) (get_or-set_other q.layout.rings b j s no_ring ne))
-      (ap (items (parts xs q.layout.each b)) (get_or-set_same q.layout.rings b s no_ring lb) ∙ sym (ap tail (queue_first s at x p e)))
-
-  pub has_room_yes : r.len < r.room → has_room_at (count_of q) q.layout.each b (queues q) ≡ true
-  has_room_yes h = and_from _ _ (lt-ltb b (count_of q) l) (lt-ltb (length (queues q b)) q.layout.each (omega (arith, length_queue, ring-room)))
-
-  pub has_room_no : r.len ≡ r.room → has_room_at (count_of q) q.layout.each b (queues q) ≡ false
-  has_room_no h = and_right _ _ (le-ltb (length (queues q b)) q.layout.each (omega (arith, length_queue, ring-room)))
+      -- and its items are those of a push
+      pub queues-pushed : (x : T) (s : Ring) (ys : List T) → length ys ≡ length part → items ys s ≡ pushed r.room x (items part r)
+          → masked q.count [] (queue_at (set q.rings b s) q.each (put_mid from (from + q.each - from) q.places.now ys)) ≡ pushed_at q.count q.each b x (queues q)
+      queues-pushed x s ys n h =
+          queues_put s ys n ∙ ap (put (queues q) b) (h ∙ ap₂ (λ k z. pushed k x z) ring-room lent_is) ∙ pushed_put q.count q.each b x (queues q) l
 
 -- no queue holds more than its room
-pub queue_within : {T : Type 0} (q : Queues T) (b : ℕ) → length (queues q b) ≤ q.layout.each
-queue_within q b = go (cases_lt b (count_of q))
+pub queue_within : {T : Type 0} (q : Queues T) (b : ℕ) → length (queues q b) ≤ q.each
+queue_within q b = go (cases_lt b q.count)
   where
-    go : (b < count_of q) ⊎ (count_of q ≤ b) → length (queues q b) ≤ q.layout.each
-    go (inl l) = omega (arith, length_queue q b l no_ring, ring-room q b l no_ring, (get_or q.layout.rings b no_ring).within.1)
+    go : (b < q.count) ⊎ (q.count ≤ b) → length (queues q b) ≤ q.each
+    go (inl l) = omega (arith, length_queue q b l no_ring, ring-room q b l no_ring, (get_or q.rings b no_ring).within.1)
     go (inr h) = rw (queue_past q b h) zero-le
+
+-- what the calls of queues take
+pub ruleset queue_parts = (queue_past, length_queue, length-lent, lent_is, queues_none, head_none, put_own)

@@ -1,5 +1,6 @@
-// One queue over a lent slice. It has no ghost field beside the slice, so that other structs can
-// hold it by value: a ring of another room than the slice has counts as empty.
+// One queue over a lent slice.
+ghost use Rattle.std.specs.Prelude.{◌≡◌, length};
+
 use crate::ring::Ring;
 
 mod methods;
@@ -8,4 +9,5 @@ mod methods;
 pub struct Queue<'a, T> {
     ring: Ring,
     places: &'a mut [T],
+    ghost fits: { ring.room ≡ length places.now },
 }

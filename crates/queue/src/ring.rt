@@ -2,6 +2,7 @@
 // and a ring over a part of a shared one count alike.
 ghost use Rattle.std.specs.Prelude.{◌≤◌};
 
+mod items;
 mod methods;
 
 #[derive(Clone, Copy)]

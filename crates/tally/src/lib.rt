@@ -13,16 +13,19 @@ pub trait Tally {
     // The word of no record.
     const START: u64;
 
-    ghost start: { ℕ };
+    ghost START: { ℕ };
 
     // The word of a record, from its size and its first cell.
     ghost weight: { ℕ → Cell → ℕ };
 
     ghost joined: { ℕ → ℕ → ℕ };
 
-    // START by a call, since generic code knows no value of a constant.
+    // START, by a call.
     fn first() -> u64
-        ensures { result ≡ start };
+        ensures { result ≡ START }
+    {
+        Self::START
+    }
 
     fn weigh(size: u32, first_cell: Cell) -> u64
         ensures { result ≡ weight size first_cell };
@@ -34,9 +37,9 @@ pub trait Tally {
 
     ghost comm: { (x y : ℕ) → joined x y ≡ joined y x };
 
-    ghost identity: { (x : ℕ) → x < 2 ^ 64 → joined start x ≡ x };
+    ghost identity: { (x : ℕ) → x < 2 ^ 64 → joined START x ≡ x };
 
-    ghost start_fits: { start < 2 ^ 64 };
+    ghost start_fits: { START < 2 ^ 64 };
 
     ghost weight_fits: { (size : ℕ) (cell : Cell) → size < 2 ^ 64 → number_or 0 cell < 2 ^ 64 → weight size cell < 2 ^ 64 };
 
@@ -50,7 +53,7 @@ pub struct Cells;
 impl Tally for Cells {
     const START: u64 = 0;
 
-    ghost start = { 0 };
+    ghost START = { 0 };
 
     ghost weight = { λ size cell. size };
 
@@ -68,10 +71,6 @@ impl Tally for Cells {
 
     ghost joined_fits = { Prim.search rules };
 
-    fn first() -> u64 {
-        Self::START
-    }
-
     fn weigh(size: u32, _first_cell: Cell) -> u64 {
         u64::from(size)
     }
@@ -88,7 +87,7 @@ pub struct OldestWeek;
 impl Tally for OldestWeek {
     const START: u64 = u64::MAX;
 
-    ghost start = { 18446744073709551615 };
+    ghost START = { 18446744073709551615 };
 
     ghost weight = { λ size cell. number_or 18446744073709551615 cell };
 
@@ -106,10 +105,6 @@ impl Tally for OldestWeek {
 
     ghost joined_fits = { Prim.search rules };
 
-    fn first() -> u64 {
-        Self::START
-    }
-
     fn weigh(_size: u32, first_cell: Cell) -> u64 {
         match first_cell {
             Cell::Value(week) => u64::from(week),
@@ -124,12 +119,8 @@ impl Tally for OldestWeek {
 
 // All words joined, which their order does not change.
 pub fn total<T: Tally>(words: &[u64]) -> u64
-    ensures fold { result ≡ fold T.joined T.start words.now }
-    ensures order { (others : List ℕ) → Permᴰ words.now others → result ≡ fold T.joined T.start others }
+    ensures fold { result ≡ fold T.joined T.START words.now }
+    ensures order { (others : List ℕ) → Permᴰ words.now others → result ≡ fold T.joined T.START others }
 {
-    let mut sum = T::first();
-    for word in words {
-        sum = T::join(sum, *word);
-    }
-    sum
+    words.iter().fold(T::START, |sum, word| T::join(sum, *word))
 }

@@ -6,10 +6,11 @@ ghost use Rattle.queue.specs.Layouts.{layout_fits, layout_answer};
 ghost use Rattle.queue.specs.Pushes.{pushed_at, push_answer, has_room_at};
 ghost use Rattle.queue.specs.QueuesOf.{queues, count_of, each_of, places_len};
 
-use super::{Layout, Queues};
+use super::Queues;
 use crate::ring::Ring;
 use crate::{Full, TooSmall};
 
+#[tactic(auto, using(crate::proofs::QueuesOf::queue_parts))]
 impl<'a, T: Copy> Queues<'a, T> {
     // No queue yet.
     pub fn over(places: &'a mut [T]) -> Queues<'a, T>
@@ -18,13 +19,12 @@ impl<'a, T: Copy> Queues<'a, T> {
         ensures each { each_of result ≡ 0 }
         ensures places { places_len result ≡ length places.old }
     {
-        let layout = Layout {
+        Queues {
             rings: [Ring::new(0); 16],
             count: 0,
             each: 0,
-            lent: 0,
-        };
-        Queues { layout, places }
+            places,
+        }
     }
 
     // Empty queues, so many with so many places each. What was queued before is dropped.
@@ -39,16 +39,12 @@ impl<'a, T: Copy> Queues<'a, T> {
         if count > 16 {
             return Err(TooSmall);
         }
-        let lent = self.places.len();
-        if count as u128 * each as u128 > lent as u128 {
+        if count as u128 * each as u128 > self.places.len() as u128 {
             return Err(TooSmall);
         }
-        self.layout = Layout {
-            rings: [Ring::new(each); 16],
-            count,
-            each,
-            lent,
-        };
+        self.rings = [Ring::new(each); 16];
+        self.count = count;
+        self.each = each;
         Ok(())
     }
 
@@ -57,20 +53,15 @@ impl<'a, T: Copy> Queues<'a, T> {
         ensures is { result ≡ count_of self.now }
         ensures few { result ≤ 16 }
     {
-        if self.layout.lent <= self.places.len() {
-            self.layout.count
-        } else {
-            0
-        }
+        self.count
     }
 
     // How many items queue b has: none where there is no such queue.
     pub fn len(&self, b: usize) -> usize
         ensures { result ≡ length (queues self.now b) }
     {
-        if b < self.count() {
-            let ring = self.layout.rings[b];
-            ring.len()
+        if b < self.count {
+            self.rings[b].len()
         } else {
             0
         }
@@ -80,19 +71,11 @@ impl<'a, T: Copy> Queues<'a, T> {
     pub fn get(&self, b: usize, i: usize) -> Option<T>
         ensures { result ≡ slice_get (queues self.now b) i }
     {
-        if b >= self.count() {
+        if b >= self.count {
             return None;
         }
-        let ring = self.layout.rings[b];
-        match ring.place(i) {
-            Some(at) => {
-                let from = self.flat(b, at);
-                // by a shared slice, which is known to span fewer bytes than a word counts
-                let places: &[T] = self.places;
-                Some(places[from])
-            }
-            None => None,
-        }
+        let start = self.start(b);
+        self.rings[b].item(&self.places[start..start + self.each], i)
     }
 
     pub fn first(&self, b: usize) -> Option<T>
@@ -110,19 +93,16 @@ impl<'a, T: Copy> Queues<'a, T> {
         ensures places { places_len self.new ≡ places_len self.old }
         ensures refused { has_room_at (count_of self.old) (each_of self.old) b (queues self.old) ≡ false → self.new ≡ self.old }
     {
-        if b >= self.count() {
+        if b >= self.count {
             return Err(Full);
         }
-        let mut ring = self.layout.rings[b];
-        match ring.push() {
-            Ok(at) => {
-                let to = self.flat(b, at);
-                self.places[to] = x;
-                self.layout.rings[b] = ring;
-                Ok(())
-            }
-            Err(full) => Err(full),
-        }
+        let from = self.start(b);
+        let to = from + self.each;
+        // by a copy (tried without): in a struct with ghost fields, a call on an element by `&mut` gets no proof
+        let mut ring = self.rings[b];
+        let pushed = ring.push_into(&mut self.places[from..to], x);
+        self.rings[b] = ring;
+        pushed
     }
 
     // The first item of queue b, which leaves it: none where there is no such queue.
@@ -133,28 +113,23 @@ impl<'a, T: Copy> Queues<'a, T> {
         ensures each { each_of self.new ≡ each_of self.old }
         ensures places { places_len self.new ≡ places_len self.old }
     {
-        if b >= self.count() {
+        if b >= self.count {
             return None;
         }
-        let mut rest = self.layout.rings[b];
-        match rest.pop() {
-            Some(at) => {
-                let from = self.flat(b, at);
-                let x = self.places[from];
-                self.layout.rings[b] = rest;
-                Some(x)
-            }
-            None => None,
-        }
+        let x = self.first(b)?;
+        // by a copy, as in `push`
+        let mut rest = self.rings[b];
+        let _ = rest.pop();
+        self.rings[b] = rest;
+        Some(x)
     }
 
-    // Which of all places is the place `at` of queue b.
-    fn flat(&self, b: usize, at: usize) -> usize
-        requires queue { b < count_of self.now }
-        requires place { at < each_of self.now }
-        ensures is { result ≡ b * each_of self.now + at }
-        ensures within { result < places_len self.now }
+    // Where the places of queue b begin.
+    fn start(&self, b: usize) -> usize
+        requires { b < count_of self.now }
+        ensures is { result ≡ b * each_of self.now }
+        ensures within { result + each_of self.now ≤ places_len self.now }
     {
-        b * self.layout.each + at
+        b * self.each
     }
 }

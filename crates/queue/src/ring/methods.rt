@@ -67,6 +67,7 @@ impl Ring {
     }
 
     // The ring goes on from the start past the last place. No sum of its counts could wrap.
+    #[tactic(auto, unfolding(crate::specs::Places::place_at))]
     fn at(&self, i: usize) -> usize
         ensures place { result ≡ place_at self.now.room self.now.first i }
         ensures within { i < self.now.room → result < self.now.room }

@@ -1,41 +1,32 @@
-use Rattle.std.proofs.Common.{ℕ, ◌<◌, [], length, set, refl, ap, ◌∙◌, arith, length-set}
-use Rattle.std.proofs.lemmas.Bool.{both_ways}
-use Rattle.theory.specs.Functions.{masked}
-use Rattle.queue.specs.QueuesOf.{queue_at, count_of, counted}
-use Rattle.queue.proofs.QueuesOf.{ring-room, queues-pushed, has_room_yes, has_room_no}
+use Rattle.std.proofs.Common.{◌+◌, ◌-◌, set, refl, ap, ◌∙◌, arith}
+use borrow.Rule.Slice.Mut.{set_vals}
+use borrow.Rule.Slice.PartMut.{put_mid, put_same}
+use Rattle.std.proofs.lemmas.Bool.{ltb-false}
+use Rattle.std.proofs.lemmas.List.{set-get_or}
+use Rattle.queue.specs.Pushes.{push_answer}
+use Rattle.queue.proofs.QueuesOf.{has_room_lent, queues-pushed}
+use Rattle.queue.proofs.Same.{same_queues}
 use Rattle.queue.proofs.queues.Queues.push.Goals as goal
 
-pub flat-to-requires : goal.flat-to-requires
-flat-to-requires g c =
-    let q = c.args.self.now in
-    let l : c.args.b < count_of q = omega (arith, c.if-b-count.false, c.count.ensures.is) in
-    let room = ring-room q c.args.b l c.index-self-b.result in
-    record { queue = l; place = omega (arith, room, c.in-Ok.ensures.within) }
+pub returns-clause-after : goal.returns-clause-after
+returns-clause-after g c =
+    let p = c.push_into-pushed in
+    queues-pushed c.args.self.now c.args.b c.if-b-self.false c.index-self-b.result c.start-from.result c.start-from.ensures.is c.args.x p.new.self p.new.places (omega arith) p.ensures.after
 
-pub returns-in-Ok : goal.returns-in-Ok
-returns-in-Ok g c =
-    let q = c.args.self.now in
-    let l : c.args.b < count_of q = omega (arith, c.if-b-count.false, c.count.ensures.is) in
-    let p = c.in-Ok.ensures in
-    let s = c.push.new.self in
-    let t = has_room_yes q c.args.b l c.index-self-b.result p.less in
-    let after =
-    λ (k : ℕ).
-    masked (counted q.layout.lent q.layout.count (length (set q.places.now k c.args.x))) []
-    (queue_at (set q.layout.rings c.args.b s) q.layout.each (set q.places.now k c.args.x)) in
-    let e = ap after c.flat-to.ensures.is ∙ queues-pushed q c.args.b l c.index-self-b.result s c.in-Ok.at c.args.x p in
-    record {
-      after = rw t e;
-      answer = rw t refl;
-      count = simp length-set;
-      each = refl;
-      places = simp length-set;
-      refused = λ h. absurd (both_ways _ h t);
-    }
+pub returns-clause-answer : goal.returns-clause-answer
+returns-clause-answer g c =
+    c.push_into-pushed.ensures.answer
+    ∙ ap push_answer (has_room_lent c.args.self.now c.args.b c.if-b-self.false c.index-self-b.result c.start-from.result c.start-from.ensures.is)
 
-pub returns-in-Err : goal.returns-in-Err
-returns-in-Err g c =
+pub returns-clause-refused : goal.returns-clause-refused
+returns-clause-refused g c = λ h.
     let q = c.args.self.now in
-    let l : c.args.b < count_of q = omega (arith, c.if-b-count.false, c.count.ensures.is) in
-    let t = has_room_no q c.args.b l c.index-self-b.result c.in-Err.ensures.0 in
-    record { after = rw t refl; answer = rw t refl; count = refl; each = refl; places = refl; refused = λ h. refl }
+    let from = c.start-from.result in
+    let full = ltb-false _ _ (has_room_lent q c.args.b c.if-b-self.false c.index-self-b.result from c.start-from.ensures.is ∙ h) in
+    let e = c.push_into-pushed.ensures.refused full in
+    let k = from + q.each - from in
+    same_queues _ q
+    (ap (set q.rings c.args.b) e.0 ∙ set-get_or q.rings c.args.b c.index-self-b.result)
+    refl
+    refl
+    (ap (λ ys. set_vals (put_mid from k q.places.now ys) q.places) e.1 ∙ ap (λ ys. set_vals ys q.places) (put_same from k q.places.now))
