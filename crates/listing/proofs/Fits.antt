@@ -1,10 +1,10 @@
 -- The listing of a file of at most 60,000 bytes fits in 65,536: a call's answer is no longer than its line.
-use Rattle.std.proofs.Common.{◌≡◌, ℕ, suc, ◌+◌, ◌^◌, ◌<◌, ◌≤◌, eqb, List, [], ◌∷◌, length, Some, None, Ok, Err, Option, Result, refl, ap, ◌∙◌, arith, length-append}
+use Rattle.std.proofs.Common.{◌≡◌, ℕ, suc, ◌+◌, ◌^◌, ◌<◌, ◌≤◌, eqb, List, [], ◌∷◌, length, Some, None, Ok, Err, Option, Result, refl, ap, ◌∙◌, decimal, arith, length-append}
 use Rattle.std.proofs.lemmas.Bool.{cond_both}
+use Rattle.std.proofs.lemmas.Fmt.{length-decimal-le}
 use Rattle.text.specs.Lines.{lines, onto}
 use Rattle.text.specs.Values.{value}
 use Rattle.text.proofs.Valued.{value-length}
-use Rattle.text.proofs.Widths.{decimal_2, decimal_5, decimal_20}
 use Rattle.theory.specs.declared.call.Call.{Call}
 use Rattle.theory.specs.declared.call.Call.TheVariants.{Make, Set}
 use Rattle.theory.specs.declared.fault.PackFault.{PackFault}
@@ -105,7 +105,7 @@ answer_short (Some (Set b slot n)) s = without_delivery_short (set_slot b slot n
 -- two numbers, a space and a newline
 pub answer_line_short : (line : ℕ) (r : Result ℕ Refusal) → line < 100000 → printed r < 100 → length (answer_line line r) ≤ 9
 answer_line_short line r l h =
-    simp length-append (omega (arith, decimal_5 line l, decimal_2 (printed r) h))
+    simp length-append (omega (arith, length-decimal-le 5 line (omega arith) l (omega arith), length-decimal-le 2 (printed r) (omega arith) h (omega arith)))
 
 stops_short : (line : ℕ) (e : Refusal) (s : State) → line < 100000 → length (stops line e s).0 ≤ 9
 stops_short line e s l = answer_line_short line (Err e) l (number_short e)
@@ -163,7 +163,8 @@ from_1_fits brought ls s h =
 -- three numbers of 64 bits, with two spaces and a newline
 pub figures_line_short : (f : Figures) → f.kept < 2 ^ 64 → f.messages < 2 ^ 64 → f.freed < 2 ^ 64 → length (figures_line f) ≤ 63
 figures_line_short f k m d =
-    simp length-append (omega (arith, decimal_20 f.kept k, decimal_20 f.messages m, decimal_20 f.freed d))
+    let short : (n : ℕ) → n < 2 ^ 64 → length (decimal n) ≤ 20 = λ n h. length-decimal-le 20 n (omega arith) (omega arith) h in
+    simp length-append (omega (arith, short f.kept k, short f.messages m, short f.freed d))
 
 -- the first line and the last two
 framed-length : (out : Out) → length (framed out) ≡ length out.0 + length (figures_line out.1.result) + 32

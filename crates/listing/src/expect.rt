@@ -9,7 +9,6 @@ ghost use Rattle.listing.specs.Numbers.{at_line};
 
 use crate::fault::{LineFault, Refusal};
 use crate::row::settings;
-use text::bytes::same;
 use text::reader::Reader;
 use theory::state::Settings;
 
@@ -25,17 +24,12 @@ pub(crate) fn expect_names(
         × (given reader.new ≡ given reader.old + 1))
         (λ e. (begins names.now (lines (left reader.old)) ≡ false) × (e ≡ at_line number Names)) }
 {
-    let fault = LineFault {
-        line: number,
-        refusal: Refusal::Names,
-    };
-    let Some(line) = reader.next_line() else {
-        return Err(fault);
-    };
-    if same(line.text, names) {
-        Ok(())
-    } else {
-        Err(fault)
+    match reader.next_line() {
+        Some(line) if line.text == names => Ok(()),
+        _ => Err(LineFault {
+            line: number,
+            refusal: Refusal::Names,
+        }),
     }
 }
 
@@ -47,15 +41,8 @@ pub(crate) fn expect_settings(reader: &mut Reader<'_>, number: usize) -> Result<
         × (given reader.new ≡ given reader.old + 1))
         (λ e. (settings_in (lines (left reader.old)) ≡ None) × (e ≡ at_line number Values)) }
 {
-    let fault = LineFault {
+    reader.next_line().and_then(settings).ok_or(LineFault {
         line: number,
         refusal: Refusal::Values,
-    };
-    let Some(line) = reader.next_line() else {
-        return Err(fault);
-    };
-    match settings(line) {
-        Some(read) => Ok(read),
-        None => Err(fault),
-    }
+    })
 }

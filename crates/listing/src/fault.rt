@@ -30,7 +30,7 @@ pub struct LineFault {
 }
 
 impl Refusal {
-    // The number by which a refusal is known outside.
+    // The number by which a refusal is known outside: `u8::from` would not say which number it makes.
     pub fn number(self) -> u8
         ensures { result ≡ number self }
     {
@@ -48,11 +48,8 @@ impl Refusal {
 pub fn on_line<T>(line: usize, r: Result<T, PackFault>) -> Result<T, LineFault>
     ensures { result ≡ result_map_both (λ x. x) (λ e. at_line line (Pack e)) r }
 {
-    match r {
-        Ok(x) => Ok(x),
-        Err(fault) => Err(LineFault {
-            line,
-            refusal: Refusal::from(fault),
-        }),
-    }
+    r.map_err(|fault| LineFault {
+        line,
+        refusal: Refusal::from(fault),
+    })
 }

@@ -52,7 +52,7 @@ fn write_listing<W: Wire, T: Tally>(
     answers(pack, &mut reader, writer);
     writer.text(b"kept messages freed\n");
     let figures = pack.result();
-    figures_line(writer, figures.kept, figures.messages, figures.freed);
+    figures_line(writer, figures);
 }
 
 // As much of the listing as the place has room for.

@@ -6,6 +6,7 @@ ghost use Rattle.listing.specs.Printed.{Words, answer_line, figures_line};
 
 use crate::fault::Refusal;
 use text::writer::Writer;
+use theory::state::Figures;
 
 // What is printed as the answer: the deliveries of an accepted call, or the number of its refusal.
 fn number_of(answer: Result<u32, Refusal>) -> u64
@@ -28,14 +29,14 @@ pub(crate) fn answer_line(writer: &mut Writer<'_>, line: usize, answer: Result<u
 }
 
 // The three figures of a collection, each of which has 64 bits.
-pub(crate) fn figures_line(writer: &mut Writer<'_>, kept: u64, messages: u64, freed: u64)
-    ensures text { Wrote writer.old writer.new (figures_line (record { kept = kept; messages = messages; freed = freed })) }
-    ensures words { Words (record { kept = kept; messages = messages; freed = freed }) }
+pub(crate) fn figures_line(writer: &mut Writer<'_>, figures: Figures)
+    ensures text { Wrote writer.old writer.new (figures_line figures) }
+    ensures words { Words figures }
 {
-    writer.number(kept);
+    writer.number(figures.kept);
     writer.byte(b' ');
-    writer.number(messages);
+    writer.number(figures.messages);
     writer.byte(b' ');
-    writer.number(freed);
+    writer.number(figures.freed);
     writer.byte(b'\n');
 }

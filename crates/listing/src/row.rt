@@ -18,6 +18,7 @@ pub(crate) struct Row {
 }
 
 impl Row {
+    // No `TryFrom`: a line gives no reason, so each `?` would first have to make one.
     pub(crate) fn of(line: Line<'_>) -> Option<Row>
         ensures { result ≡ row_of line.entry.text.now }
     {
@@ -47,25 +48,23 @@ impl Row {
             b,
             ..
         } = self;
-        if code == 1 {
-            return Some(Call::Make {
+        match code {
+            1 => Some(Call::Make {
                 board,
                 slot: a,
                 size: b,
-            });
-        }
-        if code == 5 {
-            return Some(Call::Set {
+            }),
+            5 => Some(Call::Set {
                 board,
                 slot: a,
                 number: b,
-            });
+            }),
+            _ => None,
         }
-        None
     }
 }
 
-// The four numbers of the settings line.
+// The four numbers of the settings line. One function for any count would need a loop that picks the last byte.
 pub(crate) fn settings(line: Line<'_>) -> Option<Settings>
     ensures { result ≡ settings_of line.entry.text.now }
 {

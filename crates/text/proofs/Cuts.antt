@@ -1,51 +1,35 @@
 -- The first line of a text.
-use Rattle.std.proofs.Common.{◌≡◌, ℕ, zero, suc, ◌+◌, ◌-◌, ◌<◌, ◌≤◌, cond, List, [], ◌∷◌, ◌++◌, length, get_or, take, drop, sym, refl, ap, ◌∙◌, add-one, arith}
-use Rattle.std.proofs.lemmas.List.{drop-drop, drop_all, length-take-le, take_all, take-append-drop}
-use Rattle.std.proofs.lemmas.Bool.{eq-eqb, ne_eqb}
+use Rattle.std.proofs.Common.{◌≡◌, ℕ, zero, suc, ◌+◌, ◌-◌, ◌<◌, cond, eqb, min, List, [], ◌∷◌, ◌++◌, length, take, drop, refl, ap, ◌∙◌, arith}
+use Rattle.std.specs.List.{IsFirstMatchOrLen}
+use Rattle.std.proofs.lemmas.List.{drop_at, take_rest}
 use Rattle.text.specs.Lines.{lines, onto}
-
--- the first n bytes are no newlines
-abbrev pub Unbroken : List ℕ → ℕ → Type 0
-Unbroken xs n = (k : ℕ) → k < n → get_or xs k 0 ≡ 10 → ⊥
 
 pub lines_nil : lines [] ≡ []
 unfolding lines
 lines_nil = refl
 
--- a line with its newline
-lines_cut : (xs : List ℕ) (n : ℕ) → n < length xs → Unbroken xs n → get_or xs n 0 ≡ 10 → lines xs ≡ take (suc n) xs ∷ lines (drop (suc n) xs)
+-- a text cut behind its first newline, or else at its end
+pub line_cut : (xs x ys : List ℕ) (i : ℕ) → xs ≡ x ++ ys → length x ≡ min (i + 1) (length xs) → IsFirstMatchOrLen (λ b. eqb b 10) xs i → 0 < length xs → lines xs ≡ x ∷ lines ys
 unfolding lines onto
-lines_cut [] n h u e = absurd (omega arith)
-lines_cut (x ∷ xs) zero h u e = ap (λ b. cond b ((x ∷ []) ∷ lines xs) (onto x (lines xs))) (eq-eqb x 10 e)
-lines_cut (x ∷ xs) (suc n) h u e =
-    ap (λ b. cond b ((x ∷ []) ∷ lines xs) (onto x (lines xs))) (ne_eqb x 10 (u 0 (omega arith)))
-    ∙ ap (onto x) (lines_cut xs n (omega arith) (λ k l. u (suc k) (omega arith)) e)
+line_cut [] x ys i e n f h = absurd (omega arith)
+line_cut (b ∷ bs) [] ys i e n f h = absurd (omega arith)
+line_cut (b ∷ bs) (a ∷ c ∷ cs) ys zero e n f h = absurd (omega arith)
+line_cut (b ∷ bs) (a ∷ []) ys zero e n f h =
+    let new = ap (λ t. cond t ((b ∷ []) ∷ lines bs) (onto b (lines bs))) (f.1 h b) in
+    let p : b ≡ a = cc in
+    let q : bs ≡ ys = cc in
+    new ∙ ap (λ z. (z ∷ []) ∷ lines bs) p ∙ ap (λ z. (a ∷ []) ∷ lines z) q
+line_cut (b ∷ []) (a ∷ c ∷ cs) ys (suc i) e n f h = absurd (omega arith)
+line_cut (b ∷ []) (a ∷ []) ys (suc i) e n f h =
+    let p : b ≡ a = cc in
+    let q : [] ≡ ys = cc in
+    ap (λ t. cond t ((b ∷ []) ∷ []) (onto b [])) (f.0 0 b (omega arith) (omega arith)) ∙ ap (λ z. (z ∷ []) ∷ []) p ∙ ap (λ z. (a ∷ []) ∷ lines z) q
+line_cut (b ∷ d ∷ ds) (a ∷ es) ys (suc i) e n f h =
+    let p : b ≡ a = cc in
+    let q : d ∷ ds ≡ es ++ ys = cc in
+    let on = line_cut (d ∷ ds) es ys i q (omega arith) (λ k z l m. f.0 (suc k) z (omega arith) (omega arith), λ l. f.1 (omega arith)) (omega arith) in
+    ap (λ t. cond t ((b ∷ []) ∷ lines (d ∷ ds)) (onto b (lines (d ∷ ds)))) (f.0 0 b (omega arith) (omega arith)) ∙ ap (onto b) on ∙ ap (λ z. (z ∷ es) ∷ lines ys) p
 
-pub first_line : (xs : List ℕ) (n : ℕ) → n < length xs → Unbroken xs n → get_or xs n 0 ≡ 10 → lines xs ≡ take (n + 1) xs ∷ lines (drop (n + 1) xs)
-first_line xs n h u e = rw add-one (lines_cut xs n h u e)
-
--- the last line may lack its newline
-pub last_line : (xs : List ℕ) → 0 < length xs → Unbroken xs (length xs) → lines xs ≡ xs ∷ []
-unfolding lines onto
-last_line [] h u = absurd (omega arith)
-last_line (x ∷ []) h u = ap (λ b. cond b ((x ∷ []) ∷ []) ((x ∷ []) ∷ [])) (ne_eqb x 10 (u 0 (omega arith)))
-last_line (x ∷ y ∷ ys) h u =
-    ap (λ b. cond b ((x ∷ []) ∷ lines (y ∷ ys)) (onto x (lines (y ∷ ys)))) (ne_eqb x 10 (u 0 (omega arith)))
-    ∙ ap (onto x) (last_line (y ∷ ys) (omega arith) (λ k l. u (suc k) (omega arith)))
-
--- cut so, at its end
-pub last_cut : (xs : List ℕ) → 0 < length xs → Unbroken xs (length xs) → lines xs ≡ take (length xs) xs ∷ lines (drop (length xs) xs)
-last_cut xs h u = last_line xs h u ∙ sym (ap (λ z. z ∷ lines (drop (length xs) xs)) (take_all (length xs) xs (omega arith)) ∙ ap (λ z. xs ∷ z) (ap lines (drop_all (length xs) xs (omega arith)) ∙ lines_nil))
-
--- n elements from p on, and what follows them
-pub part_front : {X : Type 0} (xs : List X) (p n : ℕ) → take (p + n - p) (drop p xs) ≡ take n (drop p xs)
-part_front xs p n = let e : p + n - p ≡ n = omega arith in ap (λ z. take z (drop p xs)) e
-
-pub part_rest : {X : Type 0} (xs : List X) (p n : ℕ) → drop p xs ≡ take (p + n - p) (drop p xs) ++ drop (p + n) xs
-part_rest xs p n = sym (ap (λ z. z ++ drop (p + n) xs) (part_front xs p n) ∙ ap (λ z. take n (drop p xs) ++ z) (sym (drop-drop n p xs)) ∙ take-append-drop n (drop p xs))
-
-pub part_length : {X : Type 0} (xs : List X) (p n : ℕ) → n ≤ length (drop p xs) → length (take (p + n - p) (drop p xs)) ≡ n
-part_length xs p n h = ap length (part_front xs p n) ∙ length-take-le n (drop p xs) h
-
-pub part_line : (xs : List ℕ) (p n : ℕ) → lines (drop p xs) ≡ take n (drop p xs) ∷ lines (drop n (drop p xs)) → lines (drop p xs) ≡ take (p + n - p) (drop p xs) ∷ lines (drop (p + n) xs)
-part_line xs p n e = e ∙ ap (λ z. z ∷ lines (drop n (drop p xs))) (sym (part_front xs p n)) ∙ ap (λ z. take (p + n - p) (drop p xs) ∷ lines z) (drop-drop n p xs)
+-- what is left behind the cut
+pub cut_rest : {X : Type 0} (xs x ys : List X) → xs ≡ x ++ ys → take (length xs - length x) (drop (length x) xs) ≡ ys
+cut_rest xs x ys e = take_rest xs (length x) ∙ ap (drop (length x)) e ∙ drop_at x ys (length x) refl

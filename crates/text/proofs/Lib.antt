@@ -4,5 +4,4 @@ pub mod Equal
 pub mod Fitted
 pub mod Numerals
 pub mod Valued
-pub mod Widths
 pub mod Writes

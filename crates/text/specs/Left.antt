@@ -1,12 +1,12 @@
 -- How far a `Reader` has come, and what a line takes it on.
-use Rattle.std.specs.Prelude.{◌≡◌, ℕ, ◌+◌, ◌<◌, List, [], ◌∷◌, ◌++◌, length, drop}
+use Rattle.std.specs.Prelude.{◌≡◌, ℕ, ◌+◌, ◌<◌, List, [], ◌∷◌, ◌++◌, length}
 use Rattle.text.specs.Lines.{lines}
 use Rattle.text.specs.declared.reader.Line.{Line}
 use Rattle.text.specs.declared.reader.Reader.{Reader}
 
 -- the bytes that it has not read yet
 abbrev pub left : Reader → List ℕ
-left r = drop r.pos r.input.now
+left r = r.rest.now
 
 -- how many lines it has given
 abbrev pub given : Reader → ℕ

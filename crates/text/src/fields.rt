@@ -8,7 +8,7 @@ use crate::reader::Line;
 const MOST_DIGITS: usize = 10;
 
 // A part of a line, before the space or the newline that ends it.
-#[derive(Clone, Copy)]
+#[derive(Clone, Copy, PartialEq, Eq, Debug)]
 pub struct Field<'a> {
     pub text: &'a [u8],
     pub line: usize,
@@ -27,33 +27,20 @@ fn field_len(bytes: &[u8]) -> usize
     ensures inside { (k : ℕ) → k < result → ends (slice_index bytes.now k) ≡ false }
     ensures ended { result < length bytes.now → ends (slice_index bytes.now result) ≡ true }
 {
-    for (i, b) in bytes.iter().enumerate() {
-        if *b == b' ' || *b == b'\n' {
-            return i;
-        }
-    }
-    bytes.len()
+    bytes
+        .iter()
+        .position(|&b| b == b' ' || b == b'\n')
+        .unwrap_or(bytes.len())
 }
 
 // The number that the digits write, if they are few enough and it fits.
 fn parse(digits: &[u8]) -> Option<u32>
     ensures { result ≡ numeral digits.now }
 {
-    if digits.len() == 0 || digits.len() > MOST_DIGITS {
+    if digits.len() > MOST_DIGITS || !digits.iter().all(u8::is_ascii_digit) {
         return None;
     }
-    let mut n: u64 = 0;
-    for b in digits {
-        if *b < b'0' || *b > b'9' {
-            return None;
-        }
-        n = n * 10 + u64::from(*b - b'0');
-    }
-    if n > u32::MAX as u64 {
-        None
-    } else {
-        Some(n as u32)
-    }
+    str::from_utf8(digits).ok()?.parse().ok()
 }
 
 impl Field<'_> {
@@ -84,17 +71,11 @@ impl<'a> Fields<'a> {
             ((field end (rest self.old) ≡ None) × (self.new ≡ self.old))
             (λ f. (field end (rest self.old) ≡ Some (f.text.now, rest self.new)) × (f.line ≡ at_line self.old)) }
     {
-        let tail = self.tail;
-        let n = field_len(tail);
-        if n == tail.len() {
-            return None;
-        }
-        if tail[n] != end {
-            return None;
-        }
-        self.tail = &tail[n + 1..];
+        let (text, after) = self.tail.split_at(field_len(self.tail));
+        let rest = after.strip_prefix(&[end])?;
+        self.tail = rest;
         Some(Field {
-            text: &tail[..n],
+            text,
             line: self.line,
         })
     }
@@ -106,14 +87,9 @@ impl<'a> Fields<'a> {
             ((value end (rest self.old) ≡ None) × (self.new ≡ self.old))
             (λ n. value end (rest self.old) ≡ Some (n, rest self.new)) }
     {
-        let start = *self;
-        let field = self.next(end)?;
-        match field.number() {
-            Some(n) => Some(n),
-            None => {
-                *self = start;
-                None
-            }
-        }
+        let mut after = *self;
+        let number = after.next(end)?.number()?;
+        *self = after;
+        Some(number)
     }
 }

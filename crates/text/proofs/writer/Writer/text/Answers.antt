@@ -1,12 +1,16 @@
-use Rattle.std.proofs.lemmas.List.{take_all}
-use Rattle.text.proofs.Writes.{wrote_nothing, wrote_more}
+use Rattle.std.proofs.Common.{◌≡◌, ◌+◌, ◌-◌, refl, arith}
+use Rattle.text.proofs.Fitted.{length-put_in, take-put_in, drop-put_in}
 use Rattle.text.proofs.writer.Writer.text.Goals as goal
 
-pub loop-b-init : goal.loop-b-init
-loop-b-init c = wrote_nothing c.args.self.now
-
-pub loop-b-preserved : goal.loop-b-preserved
-loop-b-preserved c = wrote_more c.args.bytes.now c.loop-b.b-index c.loop-b-test.true c.loop-b.invariant c.byte.ensures
-
 pub returns : goal.returns
-returns c = rw (take_all c.loop-b.b-index c.args.bytes.now c.loop-b-test.false) at c.loop-b.invariant
+returns c =
+    let w = c.args.self.now in
+    let k = c.min-n.result in
+    let n : w.len + k - w.len ≡ k = omega arith in
+    let put = c.copy_from_slice.ensures.after in
+    record {
+      lent = refl;
+      wide = length-put_in w.place.now c.args.bytes.now c.copy_from_slice.new.self w.len k _ w.ok c.min-n.ensures n put;
+      text = take-put_in w.place.now c.args.bytes.now c.copy_from_slice.new.self w.len k _ w.ok c.min-n.ensures n put;
+      after = drop-put_in w.place.now c.args.bytes.now c.copy_from_slice.new.self w.len k _ w.ok c.min-n.ensures n put;
+    }
