@@ -81,9 +81,6 @@ module _ (brought : Brought) (ls : List (List ℕ)) (s : State) where
         → from_line_1 brought ls s ≡ goes_on 2 (Ok 0) (from_line_3 (tail (tail ls)) after)
     settings_done t after x k u = right ∙ ap (λ o. set_up_by brought o (tail (tail ls)) s) k ∙ ap (after_set_up (tail (tail ls))) (sym u)
 
-pub wrong_call_names : (ls : List (List ℕ)) (s : State) → begins call_names ls ≡ false → from_line_3 ls s ≡ stops 3 Names s
-wrong_call_names ls s h = ap (λ t. cond t (call_lines 4 (tail ls) s) (stops 3 Names s)) h
-
 pub right_call_names : (ls : List (List ℕ)) (s : State) → begins call_names ls ≡ true → from_line_3 ls s ≡ call_lines 4 (tail ls) s
 right_call_names ls s h = ap (λ t. cond t (call_lines 4 (tail ls) s) (stops 3 Names s)) h
 

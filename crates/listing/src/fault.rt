@@ -5,13 +5,19 @@ ghost use Rattle.std.specs.Result.{result_map_both};
 ghost use Rattle.listing.specs.Numbers.{at_line, number};
 
 use theory::fault::PackFault;
+use thiserror::Error;
 
-#[derive(Clone, Copy, PartialEq, Eq, Debug)]
+#[derive(Clone, Copy, PartialEq, Eq, Debug, Error)]
 pub enum Refusal {
+    #[error("the file is too long, or the place for its listing too short")]
     Size,
+    #[error("a names line differs or is missing")]
     Names,
+    #[error("a value line is malformed or missing")]
     Values,
+    #[error("no call has this code")]
     Code,
+    #[error("{0}")]
     Pack(PackFault),
 }
 
@@ -23,18 +29,19 @@ impl From<PackFault> for Refusal {
     }
 }
 
-#[derive(Clone, Copy, PartialEq, Eq, Debug)]
+#[derive(Clone, Copy, PartialEq, Eq, Debug, Error)]
+#[error("line {line}: {refusal}")]
 pub struct LineFault {
     pub line: usize,
     pub refusal: Refusal,
 }
 
-impl Refusal {
-    // The number by which a refusal is known outside: `u8::from` would not say which number it makes.
-    pub fn number(self) -> u8
-        ensures { result ≡ number self }
-    {
-        match self {
+// The number by which a refusal is known outside.
+impl From<Refusal> for u8 {
+    ghost from_gives = { λ refusal n. n ≡ number refusal };
+
+    fn from(refusal: Refusal) -> u8 {
+        match refusal {
             Refusal::Size => 1,
             Refusal::Names => 2,
             Refusal::Values => 3,

@@ -51,8 +51,7 @@ fn write_listing<W: Wire, T: Tally>(
     writer.text(b"line answer\n");
     answers(pack, &mut reader, writer);
     writer.text(b"kept messages freed\n");
-    let figures = pack.result();
-    figures_line(writer, figures);
+    figures_line(writer, pack.result());
 }
 
 // As much of the listing as the place has room for.

@@ -14,7 +14,7 @@ fn number_of(answer: Result<u32, Refusal>) -> u64
 {
     match answer {
         Ok(count) => u64::from(count),
-        Err(refusal) => u64::from(refusal.number()),
+        Err(refusal) => u64::from(u8::from(refusal)),
     }
 }
 

@@ -3,8 +3,11 @@
 
 ghost use Rattle.std.specs.Prelude.{◌≡◌, ◌+◌, ◌-◌, ◌<◌, ◌≤◌, min, if◌then◌else◌, Ok, Err, nat_lt};
 
+use thiserror::Error;
+
 // The refusal to spend more than there is.
-#[derive(Clone, Copy, PartialEq, Eq, Debug)]
+#[derive(Clone, Copy, PartialEq, Eq, Debug, Error)]
+#[error("the purse has less than that")]
 pub struct Short;
 
 #[derive(Clone, Copy, PartialEq, Eq, Debug)]

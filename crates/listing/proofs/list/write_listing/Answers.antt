@@ -16,12 +16,12 @@ returns g c =
     let brought = memory c.args.pack.now in
     let out = from_line_1 brought (lines (left c.over-reader.result)) s in
     let whole = ap (λ z. from_line_1 brought (lines z) s) c.over-reader.ensures.left in
-    let figures = ap figures_line (c.result-figures.ensures ∙ ap (λ z. z.result) c.answers.ensures.pack) in
-    let text : codes "line answer\n" ++ (out.0 ++ (codes "kept messages freed\n" ++ figures_line c.result-figures.result)) ≡ framed (from_line_1 brought (lines c.args.input.now) s) =
+    let figures = ap figures_line (c.result.ensures ∙ ap (λ z. z.result) c.answers.ensures.pack) in
+    let text : codes "line answer\n" ++ (out.0 ++ (codes "kept messages freed\n" ++ figures_line c.result.result)) ≡ framed (from_line_1 brought (lines c.args.input.now) s) =
     ap (λ f. codes "line answer\n" ++ (out.0 ++ (codes "kept messages freed\n" ++ f))) figures ∙ ap framed whole in
     record {
       text = subst (Wrote c.args.writer.now c.figures_line.new.writer) text
           (c.text.ensures then (c.answers.ensures.text then (c.text-2.ensures then c.figures_line.ensures.text)));
       pack = c.answers.ensures.pack ∙ ap (λ (o : Out). o.1) whole;
-      words = subst Words c.result-figures.ensures c.figures_line.ensures.words;
+      words = subst Words c.result.ensures c.figures_line.ensures.words;
     }
