@@ -1,14 +1,11 @@
 -- Letters that all go between boards of the line.
-use Rattle.std.proofs.Common.{◌≡◌, ℕ, zero, suc, ◌<◌, ◌≤◌, true, ◌&&◌, eqb, ltb, List, [], ◌∷◌, ◌++◌, length, refl, ap, ◌∙◌, ⊎_elim, arith}
+use Rattle.std.proofs.Common.{◌≡◌, ℕ, zero, suc, ◌<◌, true, ◌&&◌, ltb, List, [], ◌∷◌, ◌++◌, refl}
 use Rattle.std.specs.List.{remove}
-use Rattle.std.proofs.lemmas.Bool.{cases_Bool, eqb-true, ltb-true, lt-ltb, and_parts, and_from}
+use Rattle.std.proofs.lemmas.Bool.{lt-ltb, and_from}
 use Rattle.theory.specs.declared.message.Message.{Message}
 use Rattle.theory.specs.declared.message.Pair.{Pair}
-use Rattle.theory.specs.Net.{total}
-use Rattle.theory.proofs.Nets.{total-pair}
-use Rattle.theory.proofs.Sums.{total_none}
 use Rattle.line.specs.declared.letters.Letter.{Letter}
-use Rattle.line.specs.Letters.{letter, for_pair, pick, picked, joins}
+use Rattle.line.specs.Letters.{letter, joins}
 use Rattle.line.specs.Propers.{joins-parts}
 
 joins_front : (n : ℕ) (l : Letter) (ls : List Letter) → l.pair.from < n → l.pair.to < n → joins n ls ≡ true → joins n (l ∷ ls) ≡ true

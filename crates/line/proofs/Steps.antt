@@ -6,7 +6,7 @@ use Rattle.theory.specs.declared.fault.WireFault.{WireFault}
 use Rattle.theory.specs.declared.fault.WireFault.TheVariants.{Full, Empty}
 use Rattle.theory.specs.declared.message.Message.{Message}
 use Rattle.theory.specs.declared.message.Pair.{Pair}
-use Rattle.theory.specs.Wire.{WireState, Proper, empty, open_for, send, take}
+use Rattle.theory.specs.Wire.{WireState, empty, open_for, send, take}
 use Rattle.theory.proofs.Wires as wires
 use Rattle.theory.proofs.Wires.{send_some, take_some, open_few}
 use Rattle.line.specs.declared.letters.Letter.{Letter}

@@ -44,7 +44,7 @@ impl Letters<'_> {
     {
         let message = self.places[at].message;
         let used = self.used;
-        self.places.copy_within(at + 1..used, at);
+        self.places[at..used].rotate_left(1);
         self.used = used - 1;
         message
     }
