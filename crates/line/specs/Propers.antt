@@ -44,7 +44,6 @@ pick_front l ls =
 
 -- the first letter and the others
 pub joins-parts : (n : ℕ) (l : Letter) (ls : List Letter) → joins n (l ∷ ls) ≡ true → (l.pair.from < n) × (l.pair.to < n) × (joins n ls ≡ true)
-unfolding joins
 joins-parts n l ls j =
     let p = and_parts (ltb l.pair.from n && ltb l.pair.to n) (joins n ls) j in
     let q = and_parts (ltb l.pair.from n) (ltb l.pair.to n) p.0 in
