@@ -29,6 +29,7 @@ impl Draws {
     // First the board that sends, then the one that takes.
     pub(crate) fn pair_below(&mut self, bound: u32) -> Pair
         requires { 0 < bound }
+        ensures { (result.from < bound) × (result.to < bound) }
     {
         let from = self.below(bound);
         let to = self.below(bound);

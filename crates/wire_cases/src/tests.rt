@@ -62,19 +62,16 @@ fn all_messages_move_to_another_wire(rt: HostRuntime) -> Result<(), Fail> {
     moves_between(&rt, heap, &mut chains, &mut line)
 }
 
-fn fewer_to_more(rt: &impl Abort, heap: Global) -> Result<(), Fail> {
+#[test]
+fn a_wire_moves_only_to_as_many_boards(rt: HostRuntime) -> Result<(), Fail> {
+    let heap = rt.alloc();
     let mut letters = vec![in heap; Letter::BLANK; 8]?;
     let mut links = vec![in heap; Link::BLANK; 8]?;
     let mut line = Line::over(&mut letters);
     let mut chains = Chains::over(&mut links);
     line.open(2)?;
     chains.open(4)?;
-    moves_to_more_boards(rt, &mut line, &mut chains)
-}
-
-#[test]
-fn a_wire_moves_only_to_as_many_boards(rt: HostRuntime) -> Result<(), Fail> {
-    fewer_to_more(&rt, rt.alloc())
+    moves_to_more_boards(&rt, &mut line, &mut chains)
 }
 
 #[test]
