@@ -22,7 +22,7 @@ const FREE: usize = 16 * 16;
 const CHAINS: usize = FREE + 1;
 
 // Chain 16 * from + to is that of a pair of boards. No place is twice in a chain or in two, each is one of the
-// table's, and each chain knows its last.
+// table's, and each chain knows its last. The memory is lent and nothing is allocated, so places are linked by number.
 #[derive(Drop)]
 pub(crate) struct Table<'a> {
     links: &'a mut [Link],

@@ -1,8 +1,10 @@
 -- What an append and a removal do to the messages of each pair.
-use Rattle.std.proofs.Common.{◌≡◌, ℕ, suc, ◌+◌, ◌<◌, ◌≤◌, true, false, cond, not, eqb, ◌⊎◌, List, [], ◌∷◌, ◌++◌, map, length, get_or, Some, None, Option, sym, refl, ap, ◌∙◌, subst, inl, inr, ⊎_elim, arith}
+use Rattle.std.proofs.Common.{◌≡◌, ℕ, suc, ◌+◌, ◌<◌, true, false, cond, not, List, [], ◌∷◌, ◌++◌, map, length, get_or, Some, None, Option, sym, refl, ap, ◌∙◌, subst, ⊎_elim, arith}
 use Rattle.std.specs.List.{remove, filter, position, position_or_len}
-use Rattle.std.proofs.lemmas.List.{append-nil}
-use Rattle.std.proofs.lemmas.Bool.{cases_Bool, cases_lt, lt-ltb, le-ltb, eqb-true, eq-eqb, and_parts, and_from}
+use Rattle.std.proofs.lemmas.List.{append-nil, map-append}
+use Rattle.std.proofs.lemmas.List.Elements.{filter-append}
+use Rattle.std.proofs.lemmas.List.Sums.{prefix_len-le-length}
+use Rattle.std.proofs.lemmas.Bool.{cases_Bool, cases_lt, lt-ltb, le-ltb}
 use Rattle.theory.specs.declared.message.Message.{Message}
 use Rattle.theory.specs.declared.message.Pair.{Pair}
 use Rattle.theory.specs.Net.{put_pair}
@@ -21,18 +23,9 @@ first_yes f t l ls e = ap (λ b. cond (not b) (1 + first_of f t ls) 0) e
 first_no : (f t : ℕ) (l : Letter) (ls : List Letter) → for_pair f t l ≡ false → first_of f t (l ∷ ls) ≡ suc (first_of f t ls)
 first_no f t l ls e = omega (arith, ap (λ b. cond (not b) (1 + first_of f t ls) 0) e)
 
-pub first_within : (f t : ℕ) (ls : List Letter) → first_of f t ls ≤ length ls
-first_within f t [] = omega arith
-first_within f t (l ∷ ls) =
-    ⊎_elim (λ e. omega (arith, first_yes f t l ls e)) (λ e. omega (arith, first_no f t l ls e, first_within f t ls)) (cases_Bool (for_pair f t l))
-
-pub pick-append : (f t : ℕ) (xs ys : List Letter) → pick f t (xs ++ ys) ≡ pick f t xs ++ pick f t ys
-pick-append f t [] ys = refl
-pick-append f t (x ∷ xs) ys =
-    ⊎_elim
-    (λ e. pick_yes f t x (xs ++ ys) e ∙ ap (λ z. x.message ∷ z) (pick-append f t xs ys) ∙ ap (λ z. z ++ pick f t ys) (sym (pick_yes f t x xs e)))
-    (λ e. pick_no f t x (xs ++ ys) e ∙ pick-append f t xs ys ∙ ap (λ z. z ++ pick f t ys) (sym (pick_no f t x xs e)))
-    (cases_Bool (for_pair f t x))
+pick-append : (f t : ℕ) (xs ys : List Letter) → pick f t (xs ++ ys) ≡ pick f t xs ++ pick f t ys
+pick-append f t xs ys =
+    ap (map (λ l. l.message)) (filter-append (for_pair f t) xs ys) ∙ map-append (λ l. l.message) (filter (for_pair f t) xs) (filter (for_pair f t) ys)
 
 -- a letter behind the others
 pub pick-send : (p : Pair) (m : Message) (ls : List Letter) → picked (ls ++ letter p m ∷ []) ≡ put_pair (picked ls) p.from p.to (pick p.from p.to ls ++ m ∷ [])
@@ -101,15 +94,15 @@ pick_none f t (l ∷ ls) h =
 
 -- what a look-up answers
 pub find_some : (f t at : ℕ) (ls : List Letter) → Some at ≡ position (for_pair f t) ls → (at ≡ first_of f t ls) × (at < length ls)
-find_some f t at ls e = go (cases_lt (first_of f t ls) (length ls))
-  where
-    go : (first_of f t ls < length ls) ⊎ (length ls ≤ first_of f t ls) → (at ≡ first_of f t ls) × (at < length ls)
-    go (inl l) = let s : Some at ≡ Some (first_of f t ls) = e ∙ rw (lt-ltb (first_of f t ls) (length ls) l) refl in let same : at ≡ first_of f t ls = cc in (same, omega arith)
-    go (inr h) = let s : Some at ≡ None = e ∙ rw (le-ltb (first_of f t ls) (length ls) h) refl in absurd cc
+find_some f t at ls e =
+    ⊎_elim
+    (λ l. let same : Some at ≡ Some (first_of f t ls) = e ∙ rw (lt-ltb (first_of f t ls) (length ls) l) refl in let is : at ≡ first_of f t ls = cc in (is, omega arith))
+    (λ h. let none : Some at ≡ None = e ∙ rw (le-ltb (first_of f t ls) (length ls) h) refl in absurd cc)
+    (cases_lt (first_of f t ls) (length ls))
 
 pub find_none : (f t : ℕ) (ls : List Letter) → ◌≡◌ {A = Option ℕ} None (position (for_pair f t) ls) → length ls ≡ first_of f t ls
-find_none f t ls e = go (cases_lt (first_of f t ls) (length ls))
-  where
-    go : (first_of f t ls < length ls) ⊎ (length ls ≤ first_of f t ls) → length ls ≡ first_of f t ls
-    go (inl l) = let s : None ≡ Some (first_of f t ls) = e ∙ rw (lt-ltb (first_of f t ls) (length ls) l) refl in absurd cc
-    go (inr h) = omega (arith, first_within f t ls)
+find_none f t ls e =
+    ⊎_elim
+    (λ l. let some : None ≡ Some (first_of f t ls) = e ∙ rw (lt-ltb (first_of f t ls) (length ls) l) refl in absurd cc)
+    (λ h. omega (arith, prefix_len-le-length (λ l. not (for_pair f t l)) ls))
+    (cases_lt (first_of f t ls) (length ls))

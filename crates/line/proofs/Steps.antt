@@ -1,26 +1,17 @@
 -- The steps of a wire, on the letters of a line.
-use Rattle.std.proofs.Common.{◌≡◌, ℕ, ◌<◌, ◌≤◌, true, List, [], ◌∷◌, ◌++◌, length, get_or, Some, None, Option, Ok, Err, Result, sym, ap, ◌∙◌, ap₂}
+use Rattle.std.proofs.Common.{◌≡◌, ℕ, ◌<◌, true, List, [], ◌∷◌, ◌++◌, length, get_or, Some, None, Option, Ok, Err, Result, sym, ap, ◌∙◌, ap₂}
 use Rattle.std.specs.List.{remove, position}
-use Rattle.theory.specs.declared.fault.PackFault.{PackFault}
 use Rattle.theory.specs.declared.fault.WireFault.{WireFault}
 use Rattle.theory.specs.declared.fault.WireFault.TheVariants.{Full, Empty}
 use Rattle.theory.specs.declared.message.Message.{Message}
 use Rattle.theory.specs.declared.message.Pair.{Pair}
-use Rattle.theory.specs.Wire.{WireState, Proper, empty, open_for, send, take}
+use Rattle.theory.specs.Wire.{WireState, send, take}
 use Rattle.theory.proofs.Wires as wires
-use Rattle.theory.proofs.Wires.{send_some, take_some, open_few}
+use Rattle.theory.proofs.Wires.{send_some, take_some}
 use Rattle.line.specs.declared.letters.Letter.{Letter}
 use Rattle.line.specs.Letters.{letter, for_pair, pick, line_of, joins}
 use Rattle.line.specs.Propers.{total-picked}
 use Rattle.line.proofs.Picks.{find_some, find_none, pick-send, pick-take, pick_removed, pick_none}
-
--- nothing waits where there are no letters
-pub line_none : (n capacity room : ℕ) (ls : List Letter) → ls ≡ [] → room ≡ capacity → line_of n room ls ≡ empty n capacity
-line_none n capacity room ls e r = ap₂ (λ z k. line_of n k z) e r
-
-pub open_clear : (n capacity room : ℕ) (w : WireState) (ls : List Letter) → n ≤ 16 → w.capacity ≡ capacity → ls ≡ [] → room ≡ capacity
-    → ◌≡◌ {A = WireState × Result (Unit {0}) PackFault} (line_of n room ls, Ok tt) (open_for n w)
-open_clear n capacity room w ls few k e r = ap (λ z. (z, Ok tt)) (line_none n w.capacity room ls e (r ∙ sym k)) ∙ sym (open_few n w few)
 
 module _ (n capacity : ℕ) (ls : List Letter) (j : joins n ls ≡ true) where
   module _ (p : Pair) (lf : p.from < n) (lt : p.to < n) where

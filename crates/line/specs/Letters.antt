@@ -26,5 +26,5 @@ abbrev pub line_of : ℕ → ℕ → List Letter → WireState
 line_of boards capacity ls = record { boards = boards; capacity = capacity; waiting = picked ls }
 
 -- each letter goes between two of n boards
-unfoldable pub joins : ℕ → List Letter → Bool
+abbrev pub joins : ℕ → List Letter → Bool
 joins n ls = list_all (λ l. nat_lt l.pair.from n && nat_lt l.pair.to n) ls

@@ -1,6 +1,6 @@
 -- That every line is a proper wire, which is the law of the trait. The proof of a law may name nothing of `proofs`, so
 -- its lemmas stand here; none of them has to be read to judge what is proved.
-use Rattle.std.proofs.Common.{◌≡◌, ℕ, ◌+◌, ◌<◌, ◌≤◌, true, false, cond, ◌&&◌, eqb, ltb, List, [], ◌∷◌, map, length, sym, refl, ap, ◌∙◌, ⊎_elim, arith}
+use Rattle.std.proofs.Common.{◌≡◌, ℕ, ◌<◌, ◌≤◌, true, false, cond, ◌&&◌, eqb, ltb, List, [], ◌∷◌, map, length, sym, refl, ap, ◌∙◌, ⊎_elim, arith}
 use Rattle.std.specs.List.{filter}
 use Rattle.std.proofs.lemmas.List.{length-take-le}
 use Rattle.std.proofs.lemmas.Bool.{cases_Bool, eqb-true, eq-eqb, ltb-true, and_parts, and_from}
@@ -44,7 +44,6 @@ pick_front l ls =
 
 -- the first letter and the others
 pub joins-parts : (n : ℕ) (l : Letter) (ls : List Letter) → joins n (l ∷ ls) ≡ true → (l.pair.from < n) × (l.pair.to < n) × (joins n ls ≡ true)
-unfolding joins
 joins-parts n l ls j =
     let p = and_parts (ltb l.pair.from n && ltb l.pair.to n) (joins n ls) j in
     let q = and_parts (ltb l.pair.from n) (ltb l.pair.to n) p.0 in

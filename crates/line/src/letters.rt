@@ -21,7 +21,7 @@ impl Letter {
     };
 }
 
-// The first `used` places have letters.
+// The first `used` places have letters. The memory is lent and nothing is allocated, so no Vec knows the length.
 #[derive(Drop)]
 pub(crate) struct Letters<'a> {
     places: &'a mut [Letter],

@@ -23,7 +23,7 @@ unfoldable pub given : Pairs → Net → Net → Net
 given some source target f t = cond (some f t) (target f t ++ source f t) (target f t)
 
 abbrev pub with_net : Net → WireState → WireState
-with_net net w = record { boards = w.boards; capacity = w.capacity; waiting = net }
+with_net net w = record w { waiting = net }
 
 -- the target joins the boards of the source, and has room for all that waits there
 pub record Ready (source target : WireState) : Type 0 where

@@ -11,8 +11,7 @@ free w = w.capacity - load w
 
 -- each pair has what waited on the target, and behind it what waited on the source
 abbrev pub joined : WireState → WireState → WireState
-joined source target =
-    record { boards = target.boards; capacity = target.capacity; waiting = λ from to. target.waiting from to ++ source.waiting from to }
+joined source target = record target { waiting = λ from to. target.waiting from to ++ source.waiting from to }
 
 -- the source and the target afterwards, and the answer
 abbrev pub transferred : WireState → WireState → (WireState × WireState) × Result (Unit {0}) WireFault

@@ -42,6 +42,6 @@ pub trait Wire {
         ensures does_its_step { (means self.new, result) ≡ take pair.from pair.to (means self.old) }
         ensures refused_leaves_all_as_it_was { OnErr result (self.new ≡ self.old) };
 
-    // What holds of every wire, whatever it stands on.
+    // What holds of every wire. Generic code has it without a call; who knows the wire's type learns it from `boards`.
     ghost proper: { (wire : Self) → Proper (means wire) };
 }

@@ -2,7 +2,7 @@
 ghost use Rattle.std.specs.Prelude.{◌<◌};
 
 use theory::memory::{Cell, Parent, Ref};
-use theory::message::{Message, Operation};
+use theory::message::{Message, Operation, Pair};
 use theory::state::Figures;
 
 #[derive(Clone, Copy)]
@@ -24,6 +24,16 @@ impl Draws {
             .wrapping_mul(1_664_525)
             .wrapping_add(1_013_904_223);
         (self.state >> 16) % bound
+    }
+
+    // First the board that sends, then the one that takes.
+    pub(crate) fn pair_below(&mut self, bound: u32) -> Pair
+        requires { 0 < bound }
+        ensures { (result.from < bound) × (result.to < bound) }
+    {
+        let from = self.below(bound);
+        let to = self.below(bound);
+        Pair { from, to }
     }
 }
 

@@ -3,6 +3,7 @@ use crate::draws::{Draws, message};
 use std::process::Abort;
 use std::test::Fail;
 use theory::fault::WireFault;
+use theory::message::Pair;
 use wire::Wire;
 use wire::transfer::transfer;
 
@@ -11,16 +12,15 @@ fn same_pair<A: Wire, B: Wire>(
     rt: &impl Abort,
     a: &mut A,
     b: &mut B,
-    from: u32,
-    to: u32,
+    pair: Pair,
 ) -> Result<(), Fail> {
-    let count = a.len(from, to);
-    assert_eq!(rt; b.len(from, to), count);
+    let count = a.len(pair);
+    assert_eq!(rt; b.len(pair), count);
     for _ in 0..count {
-        let message = a.take(from, to)?;
-        assert_eq!(rt; b.take(from, to)?, message);
-        a.send(from, to, message)?;
-        b.send(from, to, message)?;
+        let message = a.take(pair)?;
+        assert_eq!(rt; b.take(pair)?, message);
+        a.send(pair, message)?;
+        b.send(pair, message)?;
     }
     Ok(())
 }
@@ -33,7 +33,7 @@ fn same_row<A: Wire, B: Wire>(
     boards: u32,
 ) -> Result<(), Fail> {
     for to in 0..boards {
-        same_pair(rt, a, b, from, to)?;
+        same_pair(rt, a, b, Pair { from, to })?;
     }
     Ok(())
 }
@@ -59,17 +59,16 @@ fn same_step<A: Wire, B: Wire>(
     number: u32,
 ) -> Result<(), Fail> {
     let boards = a.boards();
-    let from = draws.below(boards + 1);
-    let to = draws.below(boards + 1);
+    let pair = draws.pair_below(boards + 1);
     if draws.below(16) < 9 {
-        let sent = a.send(from, to, message(number));
-        assert_eq!(rt; b.send(from, to, message(number)), sent);
+        let sent = a.send(pair, message(number));
+        assert_eq!(rt; b.send(pair, message(number)), sent);
     } else {
-        let taken = a.take(from, to);
-        assert_eq!(rt; b.take(from, to), taken);
+        let taken = a.take(pair);
+        assert_eq!(rt; b.take(pair), taken);
     }
     assert_eq!(rt; b.total(), a.total());
-    same_pair(rt, a, b, from, to)
+    same_pair(rt, a, b, pair)
 }
 
 // So many steps, and all lists compared after every hundred of them.
@@ -101,10 +100,9 @@ fn send_alike<A: Wire, B: Wire>(
     let boards = a.boards();
     assert!(rt; boards > 0);
     for number in 0..count {
-        let from = draws.below(boards);
-        let to = draws.below(boards);
-        a.send(from, to, message(number))?;
-        b.send(from, to, message(number))?;
+        let pair = draws.pair_below(boards);
+        a.send(pair, message(number))?;
+        b.send(pair, message(number))?;
     }
     Ok(())
 }
@@ -123,10 +121,11 @@ pub(crate) fn moves_all<A: Wire, B: Wire, C: Wire>(
     transfer(source, target)?;
     assert_eq!(rt; source.total(), 0);
     same(rt, target, expected)?;
+    let pair = Pair { from: 0, to: 1 };
     for number in 0..101 {
-        source.send(0, 1, message(number))?;
+        source.send(pair, message(number))?;
     }
     assert_eq!(rt; transfer(source, target), Err(WireFault::Full));
-    assert_eq!(rt; source.len(0, 1), 101);
+    assert_eq!(rt; source.len(pair), 101);
     same(rt, target, expected)
 }

@@ -1,13 +1,11 @@
 use crate::drive::{moves_all, same_steps};
-use crate::rules::{empties, fills, fills_and_empties, is_empty, moves_to_more_boards};
+use crate::rules::{keeps_the_rules, moves_to_more_boards, opens};
 use chains::{Chains, Link};
 use line::{Letter, Line};
 use std::alloc::Global;
 use std::process::Abort;
 use std::test::Fail;
-use theory::fault::PackFault;
-use theory::message::Message;
-use wire::Wire;
+use wire::opening::Open;
 
 fn alike(
     rt: &impl Abort,
@@ -38,106 +36,58 @@ fn both_wires_answer_alike(rt: HostRuntime) -> Result<(), Fail> {
     alike(&rt, heap, 16, 0, 500)
 }
 
-fn line_to_chains(rt: &impl Abort, heap: Global) -> Result<(), Fail> {
+// All that waits on a wire of 4 boards moves to another, as a third that is sent the same tells.
+fn moves_between<A: Open, B: Open>(
+    rt: &impl Abort,
+    heap: Global,
+    source: &mut A,
+    target: &mut B,
+) -> Result<(), Fail> {
     let mut letters = vec![in heap; Letter::BLANK; 600]?;
-    let mut links = vec![in heap; Link::BLANK; 600]?;
-    let mut others = vec![in heap; Letter::BLANK; 600]?;
-    let mut line = Line::over(&mut letters);
-    let mut chains = Chains::over(&mut links);
-    let mut expected = Line::over(&mut others);
-    line.open(4)?;
-    chains.open(4)?;
+    let mut expected = Line::over(&mut letters);
+    source.open(4)?;
+    target.open(4)?;
     expected.open(4)?;
-    moves_all(rt, &mut line, &mut chains, &mut expected)
-}
-
-fn chains_to_line(rt: &impl Abort, heap: Global) -> Result<(), Fail> {
-    let mut links = vec![in heap; Link::BLANK; 600]?;
-    let mut letters = vec![in heap; Letter::BLANK; 600]?;
-    let mut others = vec![in heap; Letter::BLANK; 600]?;
-    let mut chains = Chains::over(&mut links);
-    let mut line = Line::over(&mut letters);
-    let mut expected = Line::over(&mut others);
-    chains.open(4)?;
-    line.open(4)?;
-    expected.open(4)?;
-    moves_all(rt, &mut chains, &mut line, &mut expected)
+    moves_all(rt, source, target, &mut expected)
 }
 
 #[test]
 fn all_messages_move_to_another_wire(rt: HostRuntime) -> Result<(), Fail> {
-    line_to_chains(&rt, rt.alloc())?;
-    chains_to_line(&rt, rt.alloc())
+    let heap = rt.alloc();
+    let mut letters = vec![in heap; Letter::BLANK; 600]?;
+    let mut links = vec![in heap; Link::BLANK; 600]?;
+    let mut line = Line::over(&mut letters);
+    let mut chains = Chains::over(&mut links);
+    moves_between(&rt, heap, &mut line, &mut chains)?;
+    moves_between(&rt, heap, &mut chains, &mut line)
 }
 
-fn fewer_to_more(rt: &impl Abort, heap: Global) -> Result<(), Fail> {
+#[test]
+fn a_wire_moves_only_to_as_many_boards(rt: HostRuntime) -> Result<(), Fail> {
+    let heap = rt.alloc();
     let mut letters = vec![in heap; Letter::BLANK; 8]?;
     let mut links = vec![in heap; Link::BLANK; 8]?;
     let mut line = Line::over(&mut letters);
     let mut chains = Chains::over(&mut links);
     line.open(2)?;
     chains.open(4)?;
-    moves_to_more_boards(rt, &mut line, &mut chains)
-}
-
-#[test]
-fn a_wire_moves_only_to_as_many_boards(rt: HostRuntime) -> Result<(), Fail> {
-    fewer_to_more(&rt, rt.alloc())
-}
-
-// By itself, and lent.
-fn line_keeps_the_rules(rt: &impl Abort, heap: Global) -> Result<(), Fail> {
-    let mut letters = vec![in heap; Letter::BLANK; 3]?;
-    let mut line = Line::over(&mut letters);
-    line.open(2)?;
-    fills(rt, &mut line)?;
-    empties(rt, &mut line)?;
-    fills_and_empties(rt, &mut line)
-}
-
-fn chains_keep_the_rules(rt: &impl Abort, heap: Global) -> Result<(), Fail> {
-    let mut links = vec![in heap; Link::BLANK; 3]?;
-    let mut chains = Chains::over(&mut links);
-    chains.open(2)?;
-    fills(rt, &mut chains)?;
-    empties(rt, &mut chains)?;
-    fills_and_empties(rt, &mut chains)
+    moves_to_more_boards(&rt, &mut line, &mut chains)
 }
 
 #[test]
 fn each_wire_keeps_the_rules(rt: HostRuntime) -> Result<(), Fail> {
-    line_keeps_the_rules(&rt, rt.alloc())?;
-    chains_keep_the_rules(&rt, rt.alloc())
-}
-
-fn line_opens(rt: &impl Abort, heap: Global) -> Result<(), Fail> {
-    let mut letters = vec![in heap; Letter::BLANK; 8]?;
-    let mut line = Line::over(&mut letters);
-    line.open(16)?;
-    line.send(15, 0, Message::Want)?;
-    assert_eq!(rt; line.open(17), Err(PackFault::Setting));
-    assert_eq!(rt; line.boards(), 16);
-    assert_eq!(rt; line.len(15, 0), 1);
-    line.open(16)?;
-    is_empty(rt, &line, 16, 8);
-    Ok(())
-}
-
-fn chains_open(rt: &impl Abort, heap: Global) -> Result<(), Fail> {
-    let mut links = vec![in heap; Link::BLANK; 8]?;
-    let mut chains = Chains::over(&mut links);
-    chains.open(16)?;
-    chains.send(15, 0, Message::Want)?;
-    assert_eq!(rt; chains.open(17), Err(PackFault::Setting));
-    assert_eq!(rt; chains.boards(), 16);
-    assert_eq!(rt; chains.len(15, 0), 1);
-    chains.open(16)?;
-    is_empty(rt, &chains, 16, 8);
-    Ok(())
+    let heap = rt.alloc();
+    let mut letters = vec![in heap; Letter::BLANK; 3]?;
+    let mut links = vec![in heap; Link::BLANK; 3]?;
+    keeps_the_rules(&rt, &mut Line::over(&mut letters))?;
+    keeps_the_rules(&rt, &mut Chains::over(&mut links))
 }
 
 #[test]
 fn a_wire_opens_for_at_most_16_boards(rt: HostRuntime) -> Result<(), Fail> {
-    line_opens(&rt, rt.alloc())?;
-    chains_open(&rt, rt.alloc())
+    let heap = rt.alloc();
+    let mut letters = vec![in heap; Letter::BLANK; 8]?;
+    let mut links = vec![in heap; Link::BLANK; 8]?;
+    opens(&rt, &mut Line::over(&mut letters))?;
+    opens(&rt, &mut Chains::over(&mut links))
 }

@@ -1,4 +1,4 @@
-use Rattle.std.proofs.Common.{◌<◌, ◌≤◌, length, refl, arith}
+use Rattle.std.proofs.Common.{◌<◌, ◌≤◌, length, arith}
 use Rattle.wire.proofs.Moves.{left_none, came_none, take_done, send_done, pair_moved, not_refused, same_answer}
 use Rattle.wire.proofs.transfer.move_pair.Goals as goal
 
@@ -36,12 +36,9 @@ loop-preserved g c =
     let sent = send_done s t c.requires.ready c.args.pair.from c.args.pair.to c.requires.sender c.requires.taker c.loop.counter l c.in_ok-message.message _ _ c.send.result m c.loop.invariant.1 c.send.ensures.does_its_step in
     (took.0, sent.0)
 
-pub returns : goal.returns
-returns g c =
+pub returns-clause-moved : goal.returns-clause-moved
+returns-clause-moved g c =
     let s = g.A.Wire.means c.args.source.now in
     let t = g.B.Wire.means c.args.target.now in
     let l : length (s.waiting c.args.pair.from c.args.pair.to) ≤ c.loop.counter = omega (arith, c.len-waiting.ensures, c.loop-test.false) in
-    record {
-      moved = rw (c.loop.invariant.0, c.loop.invariant.1) (pair_moved s t c.requires.ready c.args.pair.from c.args.pair.to c.requires.sender c.requires.taker c.loop.counter l);
-      never_refused = refl;
-    }
+    rw (c.loop.invariant.0, c.loop.invariant.1) (pair_moved s t c.requires.ready c.args.pair.from c.args.pair.to c.requires.sender c.requires.taker c.loop.counter l)

@@ -1,21 +1,31 @@
-use Rattle.std.proofs.Common.{◌≡◌, ℕ, suc, ◌+◌, ◌-◌, ◌<◌, ◌≤◌, List, ◌++◌, length, take, drop, sym, ap, ◌∙◌, ap₂, add-one, arith, length-drop}
-use Rattle.std.specs.List.{copy_within, remove}
-use Rattle.std.proofs.lemmas.List.{length-take-le, take-take, drop-take}
-use Rattle.std.proofs.lemmas.List.Edits.{take-paste}
+use Rattle.std.proofs.Common.{◌≡◌, ℕ, suc, ◌+◌, ◌-◌, ◌<◌, ◌≤◌, List, ◌++◌, length, take, drop, sym, ap, ◌∙◌, ap₂, append_assoc, add-one, arith, length-append, length-drop, length-take}
+use Rattle.std.specs.List.{remove}
+use Rattle.std.proofs.lemmas.List.{length-take-le, take-take, take_all, take-append-le, drop-take, drop-drop}
+use Rattle.std.proofs.lemmas.Slice.{take-put_mid}
+use borrow.Rule.Slice.PartMut.{put_mid, mid_of}
 use Rattle.line.specs.declared.letters.Letter.{Letter}
 use Rattle.line.proofs.letters.Letters.remove.Goals as goal
 
--- what follows a place, moved down by one
-gap_closed : (xs ys : List Letter) (at used : ℕ) → at < used → used ≤ length xs → ys ≡ copy_within xs (at + 1) used at → take (used - 1) ys ≡ remove (take used xs) at
-gap_closed xs ys at used l h e =
-    let n : ℕ = used - (at + 1) in
-    let a : used - 1 ≡ at + n = omega arith in
-    let b : used ≡ suc at + n = omega arith in
-    ap₂ take a e ∙ take-paste xs at (drop (at + 1) xs) n (omega arith) (simp length-drop (omega arith))
-    ∙ ap (λ z. take at xs ++ take n (drop z xs)) (add-one at)
-    ∙ sym (ap₂ (λ u v. u ++ v) (take-take at used xs (omega arith)) (ap (λ z. drop (suc at) (take z xs)) b ∙ drop-take (suc at) n xs))
+-- the letters from a place on, turned by one, without the last
+gap_closed : (xs turned : List Letter) (at used : ℕ) → at < used → used ≤ length xs
+    → turned ≡ drop 1 (mid_of at (used - at) xs) ++ take 1 (mid_of at (used - at) xs)
+    → take (used - 1) (put_mid at (used - at) xs turned) ≡ remove (take used xs) at
+gap_closed xs turned at used l h e =
+    let n : ℕ = used - suc at in
+    let mid : List Letter = mid_of at (used - at) xs in
+    let ys : List Letter = put_mid at (used - at) xs turned in
+    let rest : List Letter = take n (drop (suc at) xs) in
+    let k : used - at ≡ 1 + n = omega arith in
+    let m : drop 1 mid ≡ rest = ap (λ z. drop 1 (take z (drop at xs))) k ∙ drop-take 1 n (drop at xs) ∙ ap (take n) (drop-drop 1 at xs ∙ ap (λ z. drop z xs) (add-one at)) in
+    let many : length (take at xs ++ rest) ≡ used - 1 = simp (length-append, length-take, length-drop) (omega arith) in
+    let len : length turned ≡ used - at = omega (arith, ap length e, length-append (drop 1 mid) (take 1 mid), length-drop 1 mid, length-take 1 mid, length-take-le (used - at) (drop at xs) (simp length-drop (omega arith))) in
+    sym (take-take (used - 1) used ys (omega arith))
+    ∙ ap (take (used - 1)) (take-put_mid at (used - at) xs turned used (omega arith) (omega arith) ∙ ap (λ z. take at xs ++ z) (e ∙ ap (λ z. z ++ take 1 mid) m) ∙ sym (append_assoc (take at xs) rest (take 1 mid)))
+    ∙ take-append-le (used - 1) (take at xs ++ rest) (take 1 mid) (omega arith)
+    ∙ take_all (used - 1) (take at xs ++ rest) (omega arith)
+    ∙ sym (ap₂ (λ u v. u ++ v) (take-take at used xs (omega arith)) (ap (λ z. drop (suc at) (take z xs)) (omega arith) ∙ drop-take (suc at) n xs))
 
 pub returns-clause-closed : goal.returns-clause-closed
 returns-clause-closed c =
     let l = c.args.self.now in
-    gap_closed l.places.now _ c.args.at l.used (omega (arith, c.requires.there, length-take-le l.used l.places.now l.fits)) l.fits c.copy_within.ensures.after
+    gap_closed l.places.now c.rotate_left.new.self c.args.at l.used (omega (arith, c.requires.there, length-take-le l.used l.places.now l.fits)) l.fits c.rotate_left.ensures.after
