@@ -8,7 +8,7 @@ ghost use Rattle.theory.specs.State.{with_cells, with_entries, with_free, with_s
 ghost use Rattle.boards.specs.Models.{model, Changed};
 
 use super::Core;
-use crate::flat::{store_in, wipe_in};
+use crate::flat::{store, wipe};
 use theory::memory::{Cell, Entry, Ref};
 use wire::Wire;
 
@@ -19,16 +19,19 @@ impl<W: Wire> Core<'_, W> {
         requires places { from + count ≤ self.old.settings.cells }
         ensures { Changed W.means self.old self.new b (λ x. with_cells (wiped x.cells from count (Value 0)) x) }
     {
-        let each = self.settings.cells;
-        wipe_in(self.cells, each, b, from, count, Cell::Value(0));
+        let each = self.settings.cells as usize;
+        let start = b as usize * each;
+        let part = &mut self.cells[start..start + each];
+        wipe(part, from as usize, count as usize, Cell::Value(0));
     }
 
     fn put_entry(&mut self, b: u32, entry: u16, v: Entry)
         requires { b < self.old.settings.boards }
         ensures { Changed W.means self.old self.new b (λ x. with_entries (slice_set x.entries entry v) x) }
     {
-        let each = self.settings.entries;
-        store_in(self.entries, each, b, entry as usize, v);
+        let each = self.settings.entries as usize;
+        let start = b as usize * each;
+        store(&mut self.entries[start..start + each], entry as usize, v);
     }
 
     // A slot past the last is no slot, and nothing is written there.

@@ -26,7 +26,9 @@ impl<'a, W: Wire, T: Tally> Pack<'a, W, T> {
         }
         Ok(x)
     }
+}
 
+impl<W: Wire, T: Tally> Pack<'_, W, T> {
     // A new record of so many cells, all the value 0, which the slot refers to.
     pub fn make(&mut self, board: u32, slot: u32, size: u32) -> Result<(), PackFault>
         ensures does_its_step { (state W.means self.new, result) ≡ make board slot size (state W.means self.old) }
