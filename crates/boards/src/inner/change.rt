@@ -1,5 +1,5 @@
-// Changes of one board, by its number. Each asks that there is such a board: a type that carried the fact would
-// have to carry the core as well, since another core may have fewer boards.
+// Changes of one board, by its number. Each asks that there is such a board: a number that carried the fact would
+// have to carry the core as well, and a view by `&mut` would have each contract say what it hands back.
 ghost use Rattle.std.specs.Prelude.{◌≡◌, ◌+◌, ◌<◌, ◌≤◌, slice_set};
 ghost use Rattle.theory.specs.declared.memory.Cell.TheVariants.{Value};
 ghost use Rattle.theory.specs.Lists.{tail, wiped};
