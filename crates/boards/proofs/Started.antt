@@ -23,20 +23,7 @@ own_credit credit boards h = omega (arith, mul-le credit 1 credit boards (omega 
 
 -- a board with its memory
 abbrev with_memory : List Cell → List Entry → List ℕ → List Held → Board → Board
-with_memory cs es fs hs x = record {
-  slots = x.slots;
-  top = x.top;
-  cells = cs;
-  entries = es;
-  free = fs;
-  held = hs;
-  waits = x.waits;
-  outcome = x.outcome;
-  mode = x.mode;
-  requested = x.requested;
-  purse = x.purse;
-  round = x.round;
-}
+with_memory cs es fs hs x = record x { cells = cs; entries = es; free = fs; held = hs }
 
 pub shown-fresh : (t : Settings) (r : List Registers) (cs : List Cell) (es : List Entry) (fs : ℕ → List ℕ) (hs : ℕ → List Held) (m k : ℕ)
     → t.boards ≤ 16 → t.boards * t.cells ≤ m → t.boards * t.entries ≤ k

@@ -73,20 +73,7 @@ registers_of l b = slice_index_or l b no_registers
 
 -- a board with so much credit and nothing else
 abbrev pub bare : ℕ → ℕ → Board
-bare credit most = record {
-  slots = replicate 8 (Value 0);
-  top = 0;
-  cells = [];
-  entries = [];
-  free = [];
-  held = [];
-  waits = false;
-  outcome = Done;
-  mode = Run;
-  requested = false;
-  purse = record { have = credit; most = most };
-  round = no_round;
-}
+bare credit most = record no_board { slots = replicate 8 (Value 0); purse = record { have = credit; most = most } }
 
 abbrev pub Bare : ℕ → ℕ → List Registers → ℕ → Type 0
 Bare credit most l b = look (registers_of l b) [] [] [] [] ≡ bare credit most

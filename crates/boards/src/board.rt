@@ -72,7 +72,8 @@ impl BoardView<'_, '_> {
         Ok(())
     }
 
-    // A cell of the board's own part; past its end there is none, and a value 0 is read.
+    // A cell of the board's own part; past its end there is none, and a value 0 is read: as the rules' definitions
+    // read it, so that no call has to ask for the place.
     pub fn cell(&self, at: u32) -> Cell
         ensures { result ≡ slice_index_or (viewed self.now).cells at (Value 0) }
     {
@@ -82,7 +83,7 @@ impl BoardView<'_, '_> {
             .unwrap_or(Cell::Value(0))
     }
 
-    // An entry of the board's own part; past its end there is none, and it reads as a free one.
+    // An entry of the board's own part; past its end there is none, and it reads as a free one, likewise.
     pub fn entry(&self, entry: u32) -> Entry
         ensures { result ≡ slice_index_or (viewed self.now).entries entry no_entry }
     {
@@ -104,5 +105,12 @@ impl BoardView<'_, '_> {
         ensures { result ≡ slice_get (viewed self.now).free i }
     {
         self.free.get(self.number, i)
+    }
+
+    // The operation that is held at a place of the queue.
+    pub fn held_at(&self, i: usize) -> Option<Held>
+        ensures { result ≡ slice_get (viewed self.now).held i }
+    {
+        self.held.get(self.number, i)
     }
 }

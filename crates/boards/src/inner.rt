@@ -1,5 +1,6 @@
 // Up to 16 boards over lent slices, and the wire between them: board b has the cells from
-// b * settings.cells on, and the entries from b * settings.entries on.
+// b * settings.cells on, and the entries from b * settings.entries on. The slices are lent, each with a length of its
+// own, and sixteen registers are there whatever the boards, since nothing is allocated.
 ghost use Rattle.boards.specs.Shapes.{Ranged, Sized, Laid};
 
 use crate::registers::Registers;

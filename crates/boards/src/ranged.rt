@@ -5,8 +5,8 @@ use theory::state::Settings;
 
 mod check;
 
-#[derive(Clone, Copy)]
+#[derive(Clone, Copy, PartialEq, Eq, Debug)]
 pub struct RangedSettings {
-    pub(crate) settings: Settings,
+    pub settings: Settings,
     ghost in_range: { InRange settings },
 }

@@ -1,12 +1,12 @@
 // What a board keeps beside its memory.
-ghost use Rattle.std.specs.Prelude.{◌≡◌, ℕ, ◌<◌, ◌≤◌, length, slice_set};
+ghost use Rattle.std.specs.Prelude.{◌≡◌, ℕ, ◌<◌, ◌≤◌, length};
 ghost use Rattle.boards.specs.Models.{Bare};
 
 use purse::Purse;
 use theory::memory::{Cell, Mode, Outcome};
 use theory::state::Round;
 
-#[derive(Clone, Copy)]
+#[derive(Clone, Copy, PartialEq, Eq, Debug)]
 pub struct Registers {
     pub slots: [Cell; 8],
     pub top: u32,
@@ -16,17 +16,6 @@ pub struct Registers {
     pub requested: bool,
     pub purse: Purse,
     pub round: Round,
-}
-
-impl Registers {
-    // A slot past the last is no slot, and nothing is written there.
-    pub fn put_slot(&mut self, slot: u32, v: Cell)
-        ensures { self.new ≡ record self.old { slots = slice_set self.old.slots slot v } }
-    {
-        if slot < 8 {
-            self.slots[slot as usize] = v;
-        }
-    }
 }
 
 // Sixteen boards with nothing on them, each with so much credit.

@@ -24,12 +24,10 @@ pub(crate) fn expect_names(
         × (given reader.new ≡ given reader.old + 1))
         (λ e. (begins names.now (lines (left reader.old)) ≡ false) × (e ≡ at_line number Names)) }
 {
+    let fault = Refusal::Names.at(number);
     match reader.next_line() {
         Some(line) if line.text == names => Ok(()),
-        _ => Err(LineFault {
-            line: number,
-            refusal: Refusal::Names,
-        }),
+        _ => Err(fault),
     }
 }
 
@@ -41,8 +39,6 @@ pub(crate) fn expect_settings(reader: &mut Reader<'_>, number: usize) -> Result<
         × (given reader.new ≡ given reader.old + 1))
         (λ e. (settings_in (lines (left reader.old)) ≡ None) × (e ≡ at_line number Values)) }
 {
-    reader.next_line().and_then(settings).ok_or(LineFault {
-        line: number,
-        refusal: Refusal::Values,
-    })
+    let read = reader.next_line().and_then(settings);
+    read.ok_or(Refusal::Values.at(number))
 }

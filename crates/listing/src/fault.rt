@@ -51,12 +51,21 @@ impl From<Refusal> for u8 {
     }
 }
 
+impl Refusal {
+    // The refusal, with the line that it is of.
+    pub(crate) fn at(self, line: usize) -> LineFault
+        ensures { result ≡ at_line line self }
+    {
+        LineFault {
+            line,
+            refusal: self,
+        }
+    }
+}
+
 // What a call answered, with the line that it was made for.
 pub fn on_line<T>(line: usize, r: Result<T, PackFault>) -> Result<T, LineFault>
     ensures { result ≡ result_map_both (λ x. x) (λ e. at_line line (Pack e)) r }
 {
-    r.map_err(|fault| LineFault {
-        line,
-        refusal: Refusal::from(fault),
-    })
+    r.map_err(|fault| Refusal::from(fault).at(line))
 }

@@ -1,4 +1,4 @@
-// The lines of a listing.
+// The lines of a listing. Not by `write!`, whose contract says nothing where it answers `Err`: these cannot fail.
 ghost use Rattle.std.specs.Prelude.{◌≡◌};
 ghost use Rattle.text.specs.Written.{Wrote};
 ghost use Rattle.listing.specs.Numbers.{printed};

@@ -1,4 +1,5 @@
-// The lines of a file, performed on a pack one by one, with their answers.
+// The lines of a file, performed on a pack one by one, with their answers. Pack, reader and writer are three parameters:
+// of a struct of the three, each contract would have to say that it hands the three references back.
 ghost use Rattle.std.specs.Prelude.{◌≡◌, ◌+◌};
 ghost use Rattle.text.specs.Left.{left, given};
 ghost use Rattle.text.specs.Lines.{lines};
@@ -36,10 +37,7 @@ fn calls<W: Wire, T: Tally>(
 {
     while let Some(line) = reader.next_line() {
         let Some(row) = Row::of(line) else {
-            return Err(LineFault {
-                line: line.number,
-                refusal: Refusal::Values,
-            });
+            return Err(Refusal::Values.at(line.number));
         };
         let answer = perform(pack, row);
         answer_line(writer, line.number, answer);

@@ -1,5 +1,5 @@
 -- Queues over the parts of one list: what a call at one of them finds, and what it makes of all.
-use Rattle.std.proofs.Common.{◌≡◌, ℕ, ◌+◌, ◌-◌, ◌*◌, ◌<◌, ◌≤◌, Bool, true, false, cond, ◌⊎◌, List, [], ◌∷◌, ◌++◌, length, get_or, set, sym, refl, ap, ◌∙◌, ap₂, inl, inr, zero-le, arith}
+use Rattle.std.proofs.Common.{◌≡◌, ℕ, ◌+◌, ◌-◌, ◌*◌, ◌<◌, ◌≤◌, Bool, true, false, cond, ◌⊎◌, List, [], ◌∷◌, ◌++◌, length, get_or, set, sym, refl, ap, ◌∙◌, ap₂, inl, inr, arith}
 use borrow.Rule.Slice.PartMut.{put_mid}
 use mathlib.Core.Path.{fun_ext}
 use Rattle.std.specs.List.{between}
@@ -108,12 +108,5 @@ module _ {T : Type 0} (q : Queues T) (b : ℕ) where
           queues_put s ys n ∙ ap (put (queues q) b) (h ∙ ap₂ (λ k z. pushed k x z) ring-room lent_is) ∙ pushed_put q.count q.each b x (queues q) l
 
 -- no queue holds more than its room
-pub queue_within : {T : Type 0} (q : Queues T) (b : ℕ) → length (queues q b) ≤ q.each
-queue_within q b = go (cases_lt b q.count)
-  where
-    go : (b < q.count) ⊎ (q.count ≤ b) → length (queues q b) ≤ q.each
-    go (inl l) = omega (arith, length_queue q b l no_ring, ring-room q b l no_ring, (get_or q.rings b no_ring).within.1)
-    go (inr h) = rw (queue_past q b h) zero-le
-
 -- what the calls of queues take
 pub ruleset queue_parts = (queue_past, length_queue, length-lent, lent_is, queues_none, head_none, put_own)

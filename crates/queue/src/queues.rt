@@ -1,4 +1,6 @@
-// Up to 16 queues over one lent slice: `count` queues with `each` places, the one behind the other.
+// Up to 16 queues over one lent slice: `count` queues with `each` places, the one behind the other. The sixteen rings
+// are there whatever the count, since nothing is allocated. The three numbers are said one by one in contracts: a layout
+// changes two of them, and a caller cites one.
 ghost use Rattle.std.specs.Prelude.{◌≡◌, ℕ, ◌*◌, ◌<◌, ◌≤◌, length, slice_index_or};
 ghost use Rattle.queue.specs.Rings.{no_ring};
 

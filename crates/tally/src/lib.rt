@@ -13,19 +13,13 @@ pub trait Tally {
     // The word of no record.
     const START: u64;
 
+    // The same for contracts: generic code knows by it what START is.
     ghost START: { ℕ };
 
     // The word of a record, from its size and its first cell.
     ghost weight: { ℕ → Cell → ℕ };
 
     ghost joined: { ℕ → ℕ → ℕ };
-
-    // START, by a call.
-    fn first() -> u64
-        ensures { result ≡ START }
-    {
-        Self::START
-    }
 
     fn weigh(size: u32, first_cell: Cell) -> u64
         ensures { result ≡ weight size first_cell };
@@ -47,7 +41,7 @@ pub trait Tally {
 }
 
 // How many cells the records have, modulo 2^64.
-#[derive(Clone, Copy, Drop)]
+#[derive(Clone, Copy, PartialEq, Eq, Debug, Drop)]
 pub struct Cells;
 
 impl Tally for Cells {
@@ -81,7 +75,7 @@ impl Tally for Cells {
 }
 
 // The least number that a record has in its first cell: the week of the oldest record.
-#[derive(Clone, Copy, Drop)]
+#[derive(Clone, Copy, PartialEq, Eq, Debug, Drop)]
 pub struct OldestWeek;
 
 impl Tally for OldestWeek {

@@ -7,7 +7,8 @@ pub struct Line<'a> {
     pub number: usize,
 }
 
-// Goes through the lines of a text. Each line takes a byte at least, so their count fits.
+// Goes through the lines of a text. Each line takes a byte at least, so their count fits. No `Iterator`, whose
+// members could not say what `next_line` says of the bytes and the number.
 #[derive(Drop)]
 pub struct Reader<'a> {
     rest: &'a [u8],

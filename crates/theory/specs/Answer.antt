@@ -29,3 +29,8 @@ fault_if test e next = cond test (Err e) next
 -- whether calls of a board are taken: not in a collection, and not while it waits
 abbrev pub ready : Board → Answer
 ready x = fault_if (collecting x.mode) Collecting (fault_if x.waits Waiting (Ok tt))
+
+-- goes on where nothing was found
+abbrev pub unless_fault : Answer → State → State × Answer → State × Answer
+unless_fault (Ok _) s next = next
+unless_fault (Err e) s next = refused e s

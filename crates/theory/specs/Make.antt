@@ -1,9 +1,9 @@
 -- Make: a new record from the first free entry and the cells from the top up.
 use Rattle.std.specs.Prelude.{ℕ, ◌+◌, ◌-◌, Bool, Some, None, Option, nat_le, nat_lt, slice_set}
-use Rattle.theory.specs.declared.fault.PackFault.TheVariants.{NoBoard, NoSlot, BadSize, Collecting, Waiting, NoEntry, NoRoom}
+use Rattle.theory.specs.declared.fault.PackFault.TheVariants.{NoBoard, NoSlot, BadSize, NoEntry, NoRoom}
 use Rattle.theory.specs.declared.memory.Cell.TheVariants.{Value, Ref}
 use Rattle.theory.specs.declared.memory.Entry.{Entry}
-use Rattle.theory.specs.Answer.{Answer, accepted, refused, collecting}
+use Rattle.theory.specs.Answer.{Answer, accepted, refused, ready, unless_fault}
 use Rattle.theory.specs.Lists.{wiped, head, tail}
 use Rattle.theory.specs.Refusals.{unless}
 use Rattle.theory.specs.State.{State, Board, change}
@@ -38,6 +38,5 @@ make b slot size s =
     (unless (nat_lt 7 slot) NoSlot s
     (unless (nat_lt size 1) BadSize s
     (unless (nat_lt 64 size) BadSize s
-    (unless (collecting (s.boards b).mode) Collecting s
-    (unless (s.boards b).waits Waiting s
-    (make_at b slot size (head (s.boards b).free) s))))))
+    (unless_fault (ready (s.boards b)) s
+    (make_at b slot size (head (s.boards b).free) s)))))

@@ -1,15 +1,13 @@
 -- Set-up: a pack with nothing in it, over the memory and the wire that were brought.
-use Rattle.std.specs.Prelude.{ℕ, ◌*◌, false, [], replicate, Ok, Err, nat_lt}
+use Rattle.std.specs.Prelude.{ℕ, ◌*◌, replicate, Ok, nat_lt}
 use Rattle.theory.specs.declared.fault.PackFault.TheVariants.{Setting, Memory, SmallWire, BusyWire}
 use Rattle.theory.specs.declared.memory.Cell.TheVariants.{Value}
-use Rattle.theory.specs.declared.memory.Mode.TheVariants.{Run}
-use Rattle.theory.specs.declared.memory.Outcome.TheVariants.{Done}
 use Rattle.theory.specs.declared.state.Settings.{Settings}
-use Rattle.theory.specs.Answer.{Answer, accepted, refused, fault_if}
+use Rattle.theory.specs.Answer.{Answer, accepted, fault_if, unless_fault}
 use Rattle.theory.specs.Functions.{masked}
 use Rattle.theory.specs.Lists.{below}
 use Rattle.theory.specs.Net.{needed}
-use Rattle.theory.specs.State.{State, Board, no_board, no_entry, no_round, no_figures, no_lead}
+use Rattle.theory.specs.State.{State, Board, no_board, no_entry, no_figures, no_lead}
 use Rattle.theory.specs.Wire.{WireState, load}
 
 -- how much memory was brought: cells, entries, free numbers and held operations
@@ -21,19 +19,12 @@ pub record Brought : Type 0 where
 
 -- a board as set-up leaves it
 abbrev pub fresh : Settings → Board
-fresh t = record {
+fresh t = record no_board {
   slots = replicate 8 (Value 0);
-  top = 0;
   cells = replicate t.cells (Value 0);
   entries = replicate t.entries no_entry;
   free = below t.entries;
-  held = [];
-  waits = false;
-  outcome = Done;
-  mode = Run;
-  requested = false;
   purse = record { have = t.credit; most = t.credit * t.boards };
-  round = no_round;
 }
 
 -- a pack as set-up leaves it, over the wire that s has
@@ -85,11 +76,6 @@ wire_enough w t =
     fault_if (nat_lt w.boards t.boards) SmallWire
     (fault_if (nat_lt w.capacity (needed t.boards t.credit)) SmallWire
     (fault_if (nat_lt 0 (load w)) BusyWire (Ok tt)))
-
--- goes on where nothing was found
-abbrev pub unless_fault : Answer → State → State × Answer → State × Answer
-unless_fault (Ok _) s next = next
-unless_fault (Err e) s next = refused e s
 
 abbrev pub set_up : Brought → Settings → State → State × Answer
 set_up brought t s =

@@ -29,8 +29,8 @@ pub struct Mark {
     pub owing: u32,
 }
 
-// A record of `size` cells from `place` on; a free entry has size 0. The table is lent and its entries are
-// changed in place, so a free one is a row as any other and no variant of its own.
+// A record of `size` cells from `place` on; a free entry has size 0. No variant for it: the table is one lent
+// slice of structs whose fields are changed in place, and what is read of a free entry is that size.
 #[derive(Clone, Copy, PartialEq, Eq, Debug)]
 pub struct Entry {
     pub size: u32,

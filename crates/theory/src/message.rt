@@ -61,7 +61,7 @@ impl Pair {
 }
 
 // An operation that a board holds until it has swept, with the board that sent it.
-#[derive(Clone, Copy)]
+#[derive(Clone, Copy, PartialEq, Eq, Debug)]
 pub struct Held {
     pub from: u32,
     pub operation: Operation,

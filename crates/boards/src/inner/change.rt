@@ -34,15 +34,12 @@ impl<W: Wire> Core<'_, W> {
         store(&mut self.entries[start..start + each], entry as usize, v);
     }
 
-    // A slot past the last is no slot, and nothing is written there.
     pub fn put_slot(&mut self, b: u32, slot: u32, v: Cell)
-        requires { b < self.old.settings.boards }
+        requires board { b < self.old.settings.boards }
+        requires slot { slot < 8 }
         ensures { Changed W.means self.old self.new b (λ x. with_slots (slice_set x.slots slot v) x) }
     {
-        // copied out and back: a call on an element of a field that a ghost field speaks of gets no proof
-        let mut registers = self.registers[b as usize];
-        registers.put_slot(slot, v);
-        self.registers[b as usize] = registers;
+        self.registers[b as usize].slots[slot as usize] = v;
     }
 
     fn put_top(&mut self, b: u32, v: u32)
@@ -64,6 +61,7 @@ impl<W: Wire> Core<'_, W> {
     // free entry leaves its queue: the caller names that one.
     pub fn place_record(&mut self, b: u32, slot: u32, entry: u16, size: u32)
         requires board { b < self.old.settings.boards }
+        requires slot { slot < 8 }
         requires room { ((model W.means self.old).boards b).top + size ≤ self.old.settings.cells }
         ensures { Changed W.means self.old self.new b (with_record b slot size entry) }
     {

@@ -1,4 +1,4 @@
-use Rattle.std.proofs.Common.{sym, refl, ap, ◌∙◌}
+use Rattle.std.proofs.Common.{sym, ap, ◌∙◌}
 use Rattle.text.proofs.Equal.{pointwise-same}
 use Rattle.theory.specs.Lists.{tail}
 use Rattle.listing.specs.Listing.{begins}
@@ -13,4 +13,4 @@ returns-in-Some c =
 pub returns-in_default : goal.returns-in_default
 returns-in_default c =
     let same = sym (pointwise-same c.in-Some.line.text.now c.args.names.now) ∙ sym c.eq.ensures ∙ c.if-eq.false in
-    (ap (begins c.args.names.now) c.in-Some.ensures.first ∙ same, refl)
+    (ap (begins c.args.names.now) c.in-Some.ensures.first ∙ same, c.at-fault.ensures)

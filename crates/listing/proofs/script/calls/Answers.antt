@@ -2,6 +2,7 @@ use Rattle.std.proofs.Common.{◌≡◌, ◌+◌, ◌++◌, Err, sym, refl, ap, 
 use Rattle.text.specs.Left.{left, given}
 use Rattle.text.specs.Lines.{lines}
 use Rattle.pack.specs.Shown.{state}
+use Rattle.listing.specs.declared.fault.LineFault.{LineFault}
 use Rattle.listing.specs.declared.fault.Refusal.TheVariants.{Values}
 use Rattle.listing.specs.Listing.{Out, call_lines}
 use Rattle.listing.specs.Printed.{answer_line}
@@ -20,7 +21,8 @@ returns-in_default-of g c =
     let e = calls_stop (given r + 1) (lines (left r)) (lines (left c.next_line.new.self)) c.in-Some.line.text.now
     (state w.means c.loop-line.pack) h.first (sym c.in_default-of.is ∙ c.of.ensures) in
     record {
-      text = toward_alike inv.0 (ap (λ (o : Out). o.0) e ∙ ap (λ n. answer_line n (Err Values)) (sym h.number));
+      text = toward_alike inv.0
+          (ap (λ (o : Out). o.0) e ∙ ap (λ n. answer_line n (Err Values)) (sym h.number) ∙ ap (λ (f : LineFault). answer_line f.line (Err f.refusal)) (sym c.at.ensures));
       pack = sym (ap (λ (o : Out). o.1) e) ∙ inv.1;
     }
 
