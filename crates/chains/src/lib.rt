@@ -15,7 +15,7 @@ mod open;
 mod table;
 
 // A place of the table: a message, and the place that follows it in its chain.
-#[derive(Clone, Copy)]
+#[derive(Clone, Copy, PartialEq, Eq, Debug)]
 pub struct Link {
     message: Message,
     next: usize,

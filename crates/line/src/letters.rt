@@ -7,7 +7,7 @@ use theory::message::{Message, Pair};
 mod change;
 mod read;
 
-#[derive(Clone, Copy)]
+#[derive(Clone, Copy, PartialEq, Eq, Debug)]
 pub struct Letter {
     pair: Pair,
     message: Message,
