@@ -1,6 +1,5 @@
 // The table's places in chains, by number.
-ghost use Rattle.std.specs.Prelude.{◌≡◌, length};
-ghost use Rattle.chains.specs.Linkages.{Apart, Ends, Within, linkage_of};
+ghost use Rattle.chains.specs.Linkages.{Linked, linkage_of};
 
 use crate::Link;
 
@@ -27,8 +26,5 @@ const CHAINS: usize = FREE + 1;
 pub(crate) struct Table<'a> {
     links: &'a mut [Link],
     chains: [Chain; CHAINS],
-    ghost chained: { length chains ≡ 257 },
-    ghost apart: { Apart (linkage_of links.now chains) },
-    ghost within: { Within (linkage_of links.now chains) },
-    ghost ends: { Ends (linkage_of links.now chains) },
+    ghost linked: { Linked (linkage_of links.now chains) },
 }
