@@ -10,8 +10,14 @@ use wire::transfer::transfer;
 // Each is lent at a lifetime of its own, so that wires of different owners go in.
 #[derive(Drop)]
 pub(crate) struct Both<'a, 'b, A, B> {
-    pub(crate) a: &'a mut A,
-    pub(crate) b: &'b mut B,
+    a: &'a mut A,
+    b: &'b mut B,
+}
+
+impl<'a, 'b, A, B> Both<'a, 'b, A, B> {
+    pub(crate) fn of(a: &'a mut A, b: &'b mut B) -> Both<'a, 'b, A, B> {
+        Both { a, b }
+    }
 }
 
 impl<A: Wire, B: Wire> Both<'_, '_, A, B> {
@@ -100,32 +106,16 @@ pub(crate) fn moves_all<A: Wire, B: Wire, C: Wire>(
     expected: &mut C,
 ) -> Result<(), Fail> {
     let mut draws = Draws::seeded(7);
-    Both {
-        a: target,
-        b: expected,
-    }
-    .send_all(rt, &mut draws, 200)?;
-    Both {
-        a: source,
-        b: expected,
-    }
-    .send_all(rt, &mut draws, 300)?;
+    Both::of(target, expected).send_all(rt, &mut draws, 200)?;
+    Both::of(source, expected).send_all(rt, &mut draws, 300)?;
     transfer(source, target)?;
     assert_eq!(rt; source.total(), 0);
-    Both {
-        a: target,
-        b: expected,
-    }
-    .same(rt)?;
+    Both::of(target, expected).same(rt)?;
     let pair = Pair { from: 0, to: 1 };
     for number in 0..101 {
         source.send(pair, message(number))?;
     }
     assert_eq!(rt; transfer(source, target), Err(WireFault::Full));
     assert_eq!(rt; source.len(pair), 101);
-    Both {
-        a: target,
-        b: expected,
-    }
-    .same(rt)
+    Both::of(target, expected).same(rt)
 }

@@ -20,11 +20,7 @@ fn alike(
     let mut chains = Chains::over(&mut links);
     line.open(boards)?;
     chains.open(boards)?;
-    Both {
-        a: &mut line,
-        b: &mut chains,
-    }
-    .steps(rt, boards, steps)
+    Both::of(&mut line, &mut chains).steps(rt, boards, steps)
 }
 
 // One board or all of them, with places for few messages, so that many sends find the wire full, and for
