@@ -4,5 +4,4 @@ pub mod Detaches
 pub mod Nets
 pub mod Pushes
 pub mod Spots
-pub mod Tables
 pub mod Wires

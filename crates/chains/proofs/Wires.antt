@@ -1,13 +1,13 @@
 -- Chains as a wire, before and after its calls.
 use Rattle.std.proofs.Common.{◌≡◌, ℕ, ◌+◌, ◌-◌, ◌*◌, ◌<◌, ◌≤◌, [], ◌∷◌, ◌++◌, length, Ok, Err, sym, ap, ◌∙◌, ap₂, arith}
 use Rattle.std.proofs.lemmas.List.{length_push, nil_from_length}
-use Rattle.theory.specs.declared.fault.WireFault.TheVariants.{Full, Empty}
+use Rattle.theory.specs.declared.fault.WireFault.TheVariants.{Empty}
 use Rattle.theory.specs.declared.message.Message.{Message}
 use Rattle.theory.specs.Net.{Net, put_pair, total}
 use Rattle.theory.specs.Wire.{WireState, send, take, empty}
 use Rattle.theory.proofs.Nets.{total-pair, pair_within_total}
 use Rattle.theory.proofs.Sums.{total_none}
-use Rattle.theory.proofs.Wires.{send_some, send_full, take_some, take_none}
+use Rattle.theory.proofs.Wires.{send_some, take_some, take_none}
 use Rattle.chains.specs.declared.Chains.{Chains}
 use Rattle.chains.specs.Changes.{Pushed, Popped, Cleared}
 use Rattle.chains.specs.Linkages.{Linkage, len_of, places, messages, net}
@@ -44,9 +44,6 @@ module _ (w : Chains) (f t i : ℕ) (lf : f < w.boards) (lt : t < w.boards) (is 
 
   abbrev before : Net
   before = net n (messages s)
-
-  pub chain_low : i < 256
-  chain_low = omega (arith, w.few, is, lf, lt)
 
   here : before f t ≡ messages s i
   here = net_in n (messages s) f t lf lt ∙ ap (messages s) (sym is)
@@ -97,9 +94,6 @@ module _ (w : Chains) (f t i : ℕ) (lf : f < w.boards) (lt : t < w.boards) (is 
     taken =
         ap₂ (λ c k. (made n c k, Ok m)) p.room (changed u p.others)
         ∙ sym (take_some (wire_state w) f t lf lt m (messages u i) (here ∙ p.first))
-
-  pub nothing_sent : (m : Message) → len_of s 256 ≡ 0 → (wire_state w, Err Full) ≡ send f t m (wire_state w)
-  nothing_sent m none = sym (send_full (wire_state w) f t lf lt m (omega (arith, w.summed, w.counted, none)))
 
   pub nothing_taken : len_of s i ≡ 0 → (wire_state w, Err Empty) ≡ take f t (wire_state w)
   nothing_taken none = sym (take_none (wire_state w) f t lf lt (nil_from_length (before f t) (waits ∙ none)))

@@ -14,8 +14,9 @@ pub mod as_wire;
 mod open;
 mod table;
 
-// A place of the table: a message, and the place that follows it in its chain.
-#[derive(Clone, Copy)]
+// A place of the table: a message, and the number of the place that follows it in its chain. That of a chain's
+// last place is never followed, so it needs no Option.
+#[derive(Clone, Copy, PartialEq, Eq, Debug)]
 pub struct Link {
     message: Message,
     next: usize,

@@ -1,6 +1,5 @@
 // The table's places in chains, by number.
-ghost use Rattle.std.specs.Prelude.{◌≡◌, length};
-ghost use Rattle.chains.specs.Linkages.{Apart, Ends, Within, linkage_of};
+ghost use Rattle.chains.specs.Linkages.{Linked, linkage_of};
 
 use crate::Link;
 
@@ -8,7 +7,8 @@ mod change;
 mod clear;
 mod read;
 
-// The first and the last place of a chain, and how many it has.
+// The first and the last place of a chain, and how many it has. The memory is one lent table, so places are
+// numbers; those of an empty chain are never followed, so they need no Option.
 #[derive(Clone, Copy, Default)]
 pub(crate) struct Chain {
     first: usize,
@@ -16,7 +16,8 @@ pub(crate) struct Chain {
     len: usize,
 }
 
-// The chain of the free places, behind those of the pairs of 16 boards.
+// The chain of the free places, behind those of the pairs of 16 boards: a number as theirs, so that the same
+// functions move places to it and from it.
 const FREE: usize = 16 * 16;
 
 const CHAINS: usize = FREE + 1;
@@ -27,8 +28,5 @@ const CHAINS: usize = FREE + 1;
 pub(crate) struct Table<'a> {
     links: &'a mut [Link],
     chains: [Chain; CHAINS],
-    ghost chained: { length chains ≡ 257 },
-    ghost apart: { Apart (linkage_of links.now chains) },
-    ghost within: { Within (linkage_of links.now chains) },
-    ghost ends: { Ends (linkage_of links.now chains) },
+    ghost linked: { Linked (linkage_of links.now chains) },
 }

@@ -1,5 +1,5 @@
-// Letters in the order of sending, at the front of a lent slice. The slice is read and written here,
-// so that what a line keeps true is shown once for a call and not at each turn of a loop.
+// Letters in the order of sending, at the front of a lent slice. Only this module reads and writes the
+// slice, so that a line speaks of its letters as a list, and not of places and how many are used.
 ghost use Rattle.std.specs.Prelude.{◌≤◌, length};
 
 use theory::message::{Message, Pair};
@@ -7,7 +7,7 @@ use theory::message::{Message, Pair};
 mod change;
 mod read;
 
-#[derive(Clone, Copy)]
+#[derive(Clone, Copy, PartialEq, Eq, Debug)]
 pub struct Letter {
     pair: Pair,
     message: Message,

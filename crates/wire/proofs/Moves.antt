@@ -155,17 +155,6 @@ pub is_ready : (s t : WireState) (ns nt capacity here wanted : ℕ) → Proper t
 is_ready s t ns nt capacity here wanted proper a b k h w fewer fits =
     record { joins = omega (arith, a, b); room = omega (arith, k, h, w, proper.fits) }
 
-pub boards_left : (p : Pairs) (s t s' t' : WireState) → Moved p s t s' t' → s'.boards ≡ s.boards
-boards_left p s t s' t' m = ap (λ w. w.boards) m.left
-
--- what was ready stays so
-pub ready_moved : (p : Pairs) (s t s' t' : WireState) → Ready s t → Moved p s t s' t' → Ready s' t'
-ready_moved p s t s' t' ready m =
-    let a : s'.boards ≡ s.boards = boards_left p s t s' t' m in
-    let b : t'.boards ≡ t.boards = ap (λ w. w.boards) m.came in
-    let k : t'.capacity ≡ t.capacity = ap (λ w. w.capacity) m.came in
-    record { joins = omega (arith, a, b, ready.joins); room = omega (arith, k, m.loads, ready.room) }
-
 -- every pair
 every_pair : (s t s' t' : WireState) → Proper s → Ready s t → Moved (rows s.boards s.boards) s t s' t'
     → ◌≡◌ {A = (WireState × WireState) × Result (Unit {0}) WireFault} ((s', t'), Ok tt) (transferred s t)

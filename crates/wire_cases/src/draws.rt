@@ -1,4 +1,5 @@
-// The same sends and takes in every run: draws of a linear congruential generator.
+// The same sends and takes in every run: draws of a linear congruential generator. It stands here in a few
+// lines, so that the draws depend on no library's version.
 ghost use Rattle.std.specs.Prelude.{◌<◌};
 
 use theory::memory::{Cell, Parent, Ref};

@@ -3,108 +3,98 @@ use crate::draws::{Draws, message};
 use std::process::Abort;
 use std::test::Fail;
 use theory::fault::WireFault;
-use theory::message::Pair;
+use theory::message::{Message, Pair};
 use wire::Wire;
 use wire::transfer::transfer;
 
-// The messages of a pair, in order: each is taken and sent back, so that all stand as before.
-fn same_pair<A: Wire, B: Wire>(
-    rt: &impl Abort,
-    a: &mut A,
-    b: &mut B,
-    pair: Pair,
-) -> Result<(), Fail> {
-    let count = a.len(pair);
-    assert_eq!(rt; b.len(pair), count);
-    for _ in 0..count {
-        let message = a.take(pair)?;
-        assert_eq!(rt; b.take(pair)?, message);
-        a.send(pair, message)?;
-        b.send(pair, message)?;
-    }
-    Ok(())
+// Each is lent at a lifetime of its own, so that wires of different owners go in.
+#[derive(Drop)]
+pub(crate) struct Both<'a, 'b, A, B> {
+    a: &'a mut A,
+    b: &'b mut B,
 }
 
-fn same_row<A: Wire, B: Wire>(
-    rt: &impl Abort,
-    a: &mut A,
-    b: &mut B,
-    from: u32,
-    boards: u32,
-) -> Result<(), Fail> {
-    for to in 0..boards {
-        same_pair(rt, a, b, Pair { from, to })?;
+impl<'a, 'b, A, B> Both<'a, 'b, A, B> {
+    pub(crate) fn of(a: &'a mut A, b: &'b mut B) -> Both<'a, 'b, A, B> {
+        Both { a, b }
     }
-    Ok(())
 }
 
-// All that can be seen of two wires, and of the boards that they do not join.
-pub(crate) fn same<A: Wire, B: Wire>(rt: &impl Abort, a: &mut A, b: &mut B) -> Result<(), Fail> {
-    let boards = a.boards();
-    assert_eq!(rt; b.boards(), boards);
-    assert_eq!(rt; b.capacity(), a.capacity());
-    assert_eq!(rt; b.total(), a.total());
-    for from in 0..boards + 2 {
-        same_row(rt, a, b, from, boards + 2)?;
-    }
-    Ok(())
-}
-
-// A send or a take on both wires, now and then on a pair that neither joins.
-fn same_step<A: Wire, B: Wire>(
-    rt: &impl Abort,
-    a: &mut A,
-    b: &mut B,
-    draws: &mut Draws,
-    number: u32,
-) -> Result<(), Fail> {
-    let boards = a.boards();
-    let pair = draws.pair_below(boards + 1);
-    if draws.below(16) < 9 {
-        let sent = a.send(pair, message(number));
-        assert_eq!(rt; b.send(pair, message(number)), sent);
-    } else {
-        let taken = a.take(pair);
-        assert_eq!(rt; b.take(pair), taken);
-    }
-    assert_eq!(rt; b.total(), a.total());
-    same_pair(rt, a, b, pair)
-}
-
-// So many steps, and all lists compared after every hundred of them.
-pub(crate) fn same_steps<A: Wire, B: Wire>(
-    rt: &impl Abort,
-    a: &mut A,
-    b: &mut B,
-    seed: u32,
-    steps: u32,
-) -> Result<(), Fail> {
-    let mut draws = Draws::seeded(seed);
-    for number in 0..steps {
-        same_step(rt, a, b, &mut draws, number)?;
-        if number % 100 == 0 {
-            same(rt, a, b)?;
+impl<A: Wire, B: Wire> Both<'_, '_, A, B> {
+    // The messages of a pair, in order: each is taken and sent back, so that all stand as before.
+    fn same_pair(&mut self, rt: &impl Abort, pair: Pair) -> Result<(), Fail> {
+        let count = self.a.len(pair);
+        assert_eq!(rt; self.b.len(pair), count);
+        for _ in 0..count {
+            let message = self.a.take(pair)?;
+            assert_eq!(rt; self.b.take(pair)?, message);
+            self.send(pair, message)?;
         }
+        Ok(())
     }
-    same(rt, a, b)
-}
 
-// So many messages on either wire.
-fn send_alike<A: Wire, B: Wire>(
-    rt: &impl Abort,
-    a: &mut A,
-    b: &mut B,
-    draws: &mut Draws,
-    count: u32,
-) -> Result<(), Fail> {
-    let boards = a.boards();
-    assert!(rt; boards > 0);
-    for number in 0..count {
-        let pair = draws.pair_below(boards);
-        a.send(pair, message(number))?;
-        b.send(pair, message(number))?;
+    fn same_row(&mut self, rt: &impl Abort, from: u32, boards: u32) -> Result<(), Fail> {
+        for to in 0..boards {
+            self.same_pair(rt, Pair { from, to })?;
+        }
+        Ok(())
     }
-    Ok(())
+
+    // All that can be seen of two wires, and of the boards that they do not join.
+    fn same(&mut self, rt: &impl Abort) -> Result<(), Fail> {
+        let boards = self.a.boards();
+        assert_eq!(rt; self.b.boards(), boards);
+        assert_eq!(rt; self.b.capacity(), self.a.capacity());
+        assert_eq!(rt; self.b.total(), self.a.total());
+        for from in 0..boards + 2 {
+            self.same_row(rt, from, boards + 2)?;
+        }
+        Ok(())
+    }
+
+    // A send or a take on both wires, now and then on a pair that neither joins.
+    fn step(&mut self, rt: &impl Abort, draws: &mut Draws, number: u32) -> Result<(), Fail> {
+        let boards = self.a.boards();
+        let pair = draws.pair_below(boards + 1);
+        if draws.below(16) < 9 {
+            let sent = self.a.send(pair, message(number));
+            assert_eq!(rt; self.b.send(pair, message(number)), sent);
+        } else {
+            let taken = self.a.take(pair);
+            assert_eq!(rt; self.b.take(pair), taken);
+        }
+        assert_eq!(rt; self.b.total(), self.a.total());
+        self.same_pair(rt, pair)
+    }
+
+    // So many steps, and all lists compared after the first of each hundred and at the end.
+    pub(crate) fn steps(&mut self, rt: &impl Abort, seed: u32, steps: u32) -> Result<(), Fail> {
+        let mut draws = Draws::seeded(seed);
+        for number in 0..steps {
+            self.step(rt, &mut draws, number)?;
+            if number % 100 == 0 {
+                self.same(rt)?;
+            }
+        }
+        self.same(rt)
+    }
+
+    fn send(&mut self, pair: Pair, message: Message) -> Result<(), Fail> {
+        self.a.send(pair, message)?;
+        self.b.send(pair, message)?;
+        Ok(())
+    }
+
+    // So many messages on either wire.
+    fn send_all(&mut self, rt: &impl Abort, draws: &mut Draws, count: u32) -> Result<(), Fail> {
+        let boards = self.a.boards();
+        assert!(rt; boards > 0);
+        for number in 0..count {
+            let pair = draws.pair_below(boards);
+            self.send(pair, message(number))?;
+        }
+        Ok(())
+    }
 }
 
 // The target has what it had and behind it, pair by pair, what the source had; a further hundred messages
@@ -116,16 +106,16 @@ pub(crate) fn moves_all<A: Wire, B: Wire, C: Wire>(
     expected: &mut C,
 ) -> Result<(), Fail> {
     let mut draws = Draws::seeded(7);
-    send_alike(rt, target, expected, &mut draws, 200)?;
-    send_alike(rt, source, expected, &mut draws, 300)?;
+    Both::of(target, expected).send_all(rt, &mut draws, 200)?;
+    Both::of(source, expected).send_all(rt, &mut draws, 300)?;
     transfer(source, target)?;
     assert_eq!(rt; source.total(), 0);
-    same(rt, target, expected)?;
+    Both::of(target, expected).same(rt)?;
     let pair = Pair { from: 0, to: 1 };
     for number in 0..101 {
         source.send(pair, message(number))?;
     }
     assert_eq!(rt; transfer(source, target), Err(WireFault::Full));
     assert_eq!(rt; source.len(pair), 101);
-    same(rt, target, expected)
+    Both::of(target, expected).same(rt)
 }

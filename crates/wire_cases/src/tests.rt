@@ -1,4 +1,4 @@
-use crate::drive::{moves_all, same_steps};
+use crate::drive::{Both, moves_all};
 use crate::rules::{keeps_the_rules, moves_to_more_boards, opens};
 use chains::{Chains, Link};
 use line::{Letter, Line};
@@ -20,7 +20,7 @@ fn alike(
     let mut chains = Chains::over(&mut links);
     line.open(boards)?;
     chains.open(boards)?;
-    same_steps(rt, &mut line, &mut chains, boards, steps)
+    Both::of(&mut line, &mut chains).steps(rt, boards, steps)
 }
 
 // One board or all of them, with places for few messages, so that many sends find the wire full, and for
