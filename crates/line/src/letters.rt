@@ -9,8 +9,8 @@ mod read;
 
 #[derive(Clone, Copy, PartialEq, Eq, Debug)]
 pub struct Letter {
-    pair: Pair,
-    message: Message,
+    pub pair: Pair,
+    pub message: Message,
 }
 
 impl Letter {

@@ -5,7 +5,8 @@ use line::{Letter, Line};
 use listing::fault::Refusal;
 use listing::list::{LEAST_PLACE, list};
 use pack::pack::Pack;
-use std::alloc::{AllocError, Global};
+use std::alloc::Global;
+use std::test::Fail;
 use tally::OldestWeek;
 use theory::memory::{Cell, Entry};
 use theory::message::Held;
@@ -14,18 +15,19 @@ use wire::opening::Open;
 // As many messages as packrun's wire has room for.
 const ROOM: usize = 1325;
 
-// The bytes of the listing, or the refusal, of a pack over this wire.
+// The bytes of the listing, or the refusal, of a pack over this wire. The outer answer is of the test itself: memory,
+// and the wire.
 fn listing_over<W: Open + Drop>(
     heap: Global,
     mut wire: W,
     input: &[u8],
-) -> Result<Result<Vec<u8>, Refusal>, AllocError> {
+) -> Result<Result<Vec<u8>, Refusal>, Fail> {
     let mut cells = vec![in heap; Cell::Value(0); 4096]?;
     let mut entries = vec![in heap; Entry::FREE; 512]?;
     let mut free = vec![in heap; 0; 512]?;
     let mut held = vec![in heap; Held::BLANK; 256]?;
     let mut place = vec![in heap; 0; LEAST_PLACE]?;
-    let _ = wire.open(16);
+    wire.open(16)?;
     let memory = Memory {
         cells: &mut cells,
         entries: &mut entries,
@@ -40,10 +42,7 @@ fn listing_over<W: Open + Drop>(
 }
 
 // Over the line, as packrun's.
-pub(crate) fn listing_of(
-    heap: Global,
-    input: &[u8],
-) -> Result<Result<Vec<u8>, Refusal>, AllocError> {
+pub(crate) fn listing_of(heap: Global, input: &[u8]) -> Result<Result<Vec<u8>, Refusal>, Fail> {
     let mut letters = vec![in heap; Letter::BLANK; ROOM]?;
     listing_over(heap, Line::over(&mut letters), input)
 }
@@ -52,7 +51,7 @@ pub(crate) fn listing_of(
 pub(crate) fn listing_over_chains(
     heap: Global,
     input: &[u8],
-) -> Result<Result<Vec<u8>, Refusal>, AllocError> {
+) -> Result<Result<Vec<u8>, Refusal>, Fail> {
     let mut links = vec![in heap; Link::BLANK; ROOM]?;
     listing_over(heap, Chains::over(&mut links), input)
 }

@@ -11,6 +11,9 @@ use theory::memory::{Cell, Entry};
 use theory::message::Held;
 use wire::opening::Open;
 
+// What the wire of 16 boards with the most credit needs.
+const ROOM: usize = 1325;
+
 // One byte more than a file may have, so that a longer one is seen to be too long.
 const BUFFER: usize = MOST_INPUT + 1;
 
@@ -22,7 +25,7 @@ fn main(rt: HostRuntime) -> anyhow::Result<()> {
     let mut entries = vec![in heap; Entry::FREE; 512]?;
     let mut free = vec![in heap; 0; 512]?;
     let mut held = vec![in heap; Held::BLANK; 256]?;
-    let mut letters = vec![in heap; Letter::BLANK; 1325]?;
+    let mut letters = vec![in heap; Letter::BLANK; ROOM]?;
     let mut place = vec![in heap; 0; LEAST_PLACE]?;
     let mut line = Line::over(&mut letters);
     line.open(16)?;
