@@ -7,7 +7,7 @@ use theory::message::{Message, Pair};
 use wire::Wire;
 use wire::transfer::transfer;
 
-// Each is lent at a lifetime of its own, so that wires of different owners go in.
+// A lifetime for each: with one for both, the borrow checker does not cover the calls of the methods.
 #[derive(Drop)]
 pub(crate) struct Both<'a, 'b, A, B> {
     a: &'a mut A,
