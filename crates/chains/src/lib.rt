@@ -23,7 +23,7 @@ pub struct Link {
 }
 
 impl Link {
-    // What a place holds before it was used.
+    // What a place holds before it was used. No `Default`: no message is one.
     pub const BLANK: Link = Link {
         message: Message::Want,
         next: 0,

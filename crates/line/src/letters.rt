@@ -14,7 +14,7 @@ pub struct Letter {
 }
 
 impl Letter {
-    // What a place holds before a letter was put there.
+    // What a place holds before a letter was put there. No `Default`: no message is one.
     pub const BLANK: Letter = Letter {
         pair: Pair { from: 0, to: 0 },
         message: Message::Want,

@@ -37,7 +37,7 @@ impl Row {
         })
     }
 
-    // The call that the code names, with its arguments in order.
+    // The call that the code names, with its arguments in order. The codes are the file's. No `TryFrom`, as above.
     pub(crate) fn call(self) -> Option<Call>
         ensures { result ≡ call_of self }
     {

@@ -1,4 +1,5 @@
-// A pack over packrun's memory, made anew for every file.
+// A pack over packrun's memory, made anew for every file. It is set up here as there: a function for both would have
+// to hand out what it lends.
 use boards::memory::Memory;
 use chains::{Chains, Link};
 use line::{Letter, Line};

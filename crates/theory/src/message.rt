@@ -68,7 +68,7 @@ pub struct Held {
 }
 
 impl Held {
-    // What a place holds before anything was held there.
+    // What a place holds before anything was held there. No `Default`: no operation is one.
     pub const BLANK: Held = Held {
         from: 0,
         operation: Operation::Ack {

@@ -12,6 +12,7 @@ pub mod lent;
 pub mod opening;
 pub mod transfer;
 
+// A wire tests its pair where it sends and takes: a helper that refuses would need a `?` there, and be as long.
 pub trait Wire {
     ghost means: { Self → WireState };
 

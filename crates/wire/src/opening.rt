@@ -1,4 +1,4 @@
-// Wires that are opened for a number of boards.
+// Wires that are opened for a number of boards. Each tests the number itself: a helper would be as long.
 ghost use Rattle.std.specs.Prelude.{◌≡◌, OnErr};
 ghost use Rattle.theory.specs.Wire.{open_for};
 

@@ -17,6 +17,7 @@ impl Table<'_> {
         let chain = self.chains[i];
         let place = chain.first;
         let first = self.links[place].next;
+        // each field by name, here and below, so that what stays can be read beside what changes
         self.chains[i] = Chain {
             first,
             last: chain.last,
