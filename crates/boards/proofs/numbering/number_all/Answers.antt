@@ -18,15 +18,10 @@ loop-b-init c =
       refl,
     )
 
-pub number_one-requires : goal.number_one-requires
-number_one-requires c =
-    let inv = c.loop-b.invariant in
+pub number_one-requires-clause-empty : goal.number_one-requires-clause-empty
+number_one-requires-clause-empty c =
     let b = c.loop-b.b in
-    record {
-      queue = omega (arith, inv.1, c.loop-b-test.true);
-      room = omega (arith, inv.2);
-      empty = ap (λ f. f b) inv.0 ∙ masked_out b [] (λ _. below c.args.each) b (omega arith);
-    }
+    ap (λ f. f b) c.loop-b.invariant.0 ∙ masked_out b [] (λ _. below c.args.each) b (omega arith)
 
 pub loop-b-preserved : goal.loop-b-preserved
 loop-b-preserved c =

@@ -4,23 +4,16 @@ use Rattle.queue.specs.Layouts.{layout_fits}
 use Rattle.queue.specs.QueuesOf.{queues, places_len}
 use Rattle.theory.proofs.Defaults.{figures_are_none, lead_is_none}
 use Rattle.boards.specs.Models.{model}
-use Rattle.boards.proofs.Sizes.{same_sizes}
-use Rattle.boards.proofs.Started.{own_credit, shown-fresh, seen-started}
+use Rattle.boards.proofs.Started.{shown-fresh, seen-started}
 use Rattle.boards.proofs.inner.Core.start.Goals as goal
 
-pub fresh_registers-self-requires : goal.fresh_registers-self-requires
-fresh_registers-self-requires g c = own_credit c.args.ranged.settings.credit c.args.ranged.settings.boards c.args.ranged.in_range.one
-
-pub returns : goal.returns
-returns g c =
+pub returns-clause-after : goal.returns-clause-after
+returns-clause-after g c =
     let p = c.args.self.now in
     let t = c.args.ranged.settings in
     let range = c.args.ranged.in_range in
     let fits : layout_fits t.boards t.boards (places_len p.held) ≡ true = and_from _ _ (le-leb _ _ range.ranged.0) (le-leb _ _ c.requires.held) in
-    record {
-      after = seen-started t _ _ _ _ _ _ _ (lead_is_none c.default-self.result c.default-self.ensures) (figures_are_none c.default-self-2.result c.default-self-2.ensures) (model g.W.Wire.means p)
-          (shown-fresh t c.fresh_registers-self.result c.fill.new.self c.fill-2.new.self (queues c.number_all.new.free) (queues c.lay_out.new.self)
-          (length p.cells.now) (length p.entries.now) range.ranged.0 c.requires.cells c.requires.entries c.fresh_registers-self.ensures.each
-          (c.fill.ensures.after (search rules)) (c.fill-2.ensures.after (search rules)) c.number_all.ensures.after (c.lay_out.ensures.after ∙ ap (λ z. cond z (λ _. []) (queues p.held)) fits));
-      brought = same_sizes _ _ _ _ _ _ _ _ c.fill.ensures.len c.fill-2.ensures.len c.number_all.ensures.places c.lay_out.ensures.places;
-    }
+    seen-started t _ _ _ _ _ _ _ (lead_is_none c.default-self.result c.default-self.ensures) (figures_are_none c.default-self-2.result c.default-self-2.ensures) (model g.W.Wire.means p)
+    (shown-fresh t c.fresh_registers-self.result c.fill.new.self c.fill-2.new.self (queues c.number_all.new.free) (queues c.lay_out.new.self)
+    (length p.cells.now) (length p.entries.now) range.ranged.0 c.requires.cells c.requires.entries c.fresh_registers-self.ensures.each
+    (c.fill.ensures.after (search rules)) (c.fill-2.ensures.after (search rules)) c.number_all.ensures.after (c.lay_out.ensures.after ∙ ap (λ z. cond z (λ _. []) (queues p.held)) fits))
