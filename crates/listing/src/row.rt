@@ -64,7 +64,8 @@ impl Row {
     }
 }
 
-// The four numbers of the settings line. One function for any count would need a loop that picks the last byte.
+// The four numbers of the settings line. No `TryFrom`, as above. One function for any count of numbers would need a
+// loop that picks the last byte.
 pub(crate) fn settings(line: Line<'_>) -> Option<Settings>
     ensures { result ≡ settings_of line.entry.text.now }
 {

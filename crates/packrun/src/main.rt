@@ -29,6 +29,7 @@ fn main(rt: HostRuntime) -> anyhow::Result<()> {
     let mut place = vec![in heap; 0; LEAST_PLACE]?;
     let mut line = Line::over(&mut letters);
     line.open(16)?;
+    // set up here as in the tests of the listing: a function for both would have to hand out what it lends
     let memory = Memory {
         cells: &mut cells,
         entries: &mut entries,
