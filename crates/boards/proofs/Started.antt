@@ -1,5 +1,6 @@
 -- The boards as set-up leaves them.
-use Rattle.std.proofs.Common.{◌≡◌, ℕ, ◌*◌, ◌<◌, ◌≤◌, List, [], replicate, ap, ◌∙◌, arith}
+use Rattle.std.proofs.Common.{mul-one, ◌≡◌, ℕ, ◌*◌, ◌<◌, ◌≤◌, List, [], replicate, ap, ◌∙◌, arith}
+use Rattle.std.proofs.lemmas.Nat.{mul-le}
 use Rattle.theory.specs.declared.memory.Cell.{Cell}
 use Rattle.theory.specs.declared.memory.Cell.TheVariants.{Value}
 use Rattle.theory.specs.declared.memory.Entry.{Entry}
@@ -16,6 +17,9 @@ use Rattle.theory.proofs.Functions.{masked_in, masked_same, masked_none}
 use Rattle.theory.proofs.Parts.{parts-replicate}
 use Rattle.boards.specs.declared.registers.Registers.{Registers}
 use Rattle.boards.specs.Models.{looks, shown, seen, registers_of, Bare}
+
+pub own_credit : (credit boards : ℕ) → 1 ≤ boards → credit ≤ credit * boards
+own_credit credit boards h = omega (arith, mul-le credit 1 credit boards (omega arith) h, mul-one credit)
 
 -- a board with its memory
 abbrev with_memory : List Cell → List Entry → List ℕ → List Held → Board → Board

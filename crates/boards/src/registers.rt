@@ -1,5 +1,5 @@
 // What a board keeps beside its memory.
-ghost use Rattle.std.specs.Prelude.{◌≡◌, ℕ, ◌<◌, ◌≤◌, length};
+ghost use Rattle.std.specs.Prelude.{◌≡◌, ℕ, ◌<◌, length, min};
 ghost use Rattle.boards.specs.Models.{Bare};
 
 use purse::Purse;
@@ -18,11 +18,10 @@ pub struct Registers {
     pub round: Round,
 }
 
-// Sixteen boards with nothing on them, each with so much credit.
+// Sixteen boards with nothing on them, each with so much credit, but no more than the most.
 pub fn fresh_registers(credit: u32, most: u32) -> [Registers; 16]
-    requires { credit ≤ most }
     ensures count { length result ≡ 16 }
-    ensures each { (b : ℕ) → b < 16 → Bare credit most result b }
+    ensures each { (b : ℕ) → b < 16 → Bare (min credit most) most result b }
 {
     [Registers {
         slots: [Cell::Value(0); 8],
