@@ -1,4 +1,4 @@
-// Settings that are in their ranges.
+// Settings that were found in their ranges. What the type keeps of that is what set-up's sums and casts need.
 ghost use Rattle.boards.specs.Shapes.{InRange};
 
 use theory::state::Settings;

@@ -31,6 +31,15 @@ fn every_case_has_its_listing(rt: HostRuntime) -> Result<(), Fail> {
     every(&rt, rt.alloc(), &calls::CASES)
 }
 
+fn ends_with_its_last_lines(rt: &impl Abort, answer: Result<Vec<u8>, Refusal>) {
+    match answer {
+        Ok(listing) => assert!(rt;
+            listing.ends_with(b"\n5997 0\n5998 3\nkept messages freed\n0 0 0\n")
+        ),
+        Err(_) => assert!(rt; false),
+    }
+}
+
 // As many good lines as go into a file, and an unfinished one up to its last byte; then a byte more.
 #[test]
 fn a_file_has_at_most_so_many_bytes(rt: HostRuntime) -> Result<(), Fail> {
@@ -42,13 +51,10 @@ fn a_file_has_at_most_so_many_bytes(rt: HostRuntime) -> Result<(), Fail> {
     }
     file.extend_from_slice(b"5 0 0 7")?;
     assert!(rt; file.len() == MOST_INPUT);
-    match listing_of(heap, &file)? {
-        Ok(listing) => assert!(rt;
-            listing.ends_with(b"\n5997 0\n5998 3\nkept messages freed\n0 0 0\n")
-        ),
-        Err(_) => assert!(rt; false),
-    }
+    ends_with_its_last_lines(&rt, listing_of(heap, &file)?);
+    ends_with_its_last_lines(&rt, listing_over_chains(heap, &file)?);
     file.push(b'\n')?;
     assert_eq!(rt; listing_of(heap, &file)?.err(), Some(Refusal::Size));
+    assert_eq!(rt; listing_over_chains(heap, &file)?.err(), Some(Refusal::Size));
     Ok(())
 }

@@ -19,7 +19,8 @@ const BUFFER: usize = MOST_INPUT + 1;
 
 fn main(rt: HostRuntime) -> anyhow::Result<()> {
     let heap = rt.alloc();
-    let mut input = Vec::new(heap);
+    // a vector that is full grows once more before it sees the end, so this one keeps a byte that is never read
+    let mut input = Vec::with_capacity(heap, BUFFER + 1)?;
     rt.stdin().take(BUFFER as u64).read_to_end(&mut input)?;
     let mut cells = vec![in heap; Cell::Value(0); 4096]?;
     let mut entries = vec![in heap; Entry::FREE; 512]?;
