@@ -1,6 +1,6 @@
 -- Texts that are cut at the room that there is for them.
-use Rattle.std.proofs.Common.{◌≡◌, ℕ, ◌+◌, ◌-◌, ◌≤◌, List, ◌++◌, length, take, drop, min, sym, ap, ◌∙◌, ⊎_elim, arith, length-append, length-take, length-drop}
-use Rattle.std.proofs.lemmas.List.{append_assoc, take_all, take_at, take-append-le, take_min, drop-drop, length-take-le}
+use Rattle.std.proofs.Common.{◌≡◌, ℕ, ◌+◌, ◌-◌, ◌<◌, ◌≤◌, List, [], ◌∷◌, ◌++◌, length, take, drop, set, min, sym, ap, ◌∙◌, ⊎_elim, arith, length-append, length-take, length-drop}
+use Rattle.std.proofs.lemmas.List.{append_assoc, take_all, take_at, take-append-le, take_min, take_more_set, drop-drop, length-take-le, length_push}
 use Rattle.std.proofs.Math.Seq.{take-append-add}
 use borrow.Rule.Slice.PartMut.{put_mid}
 use Rattle.std.proofs.lemmas.Slice.{take-put_mid, drop-put_mid}
@@ -17,6 +17,15 @@ module _ {X : Type 0} where
   -- two texts one after the other
   pub take_twice : (c : ℕ) (xs ys zs : List X) → take c (take c (xs ++ ys) ++ zs) ≡ take c (xs ++ (ys ++ zs))
   take_twice c xs ys zs = take-append-take c (xs ++ ys) zs ∙ ap (take c) (append_assoc xs ys zs)
+
+  -- an element that fits, and one that does not
+  pub put_fits : (xs : List X) (n : ℕ) (x : X) → n < length xs → take (n + 1) (set xs n x) ≡ take (length xs) (take n xs ++ x ∷ [])
+  put_fits xs n x h =
+      let l = length-take-le n xs (omega arith) in
+      take_more_set xs n x h ∙ sym (take_all (length xs) (take n xs ++ x ∷ []) (omega (arith, length_push (take n xs) x)))
+
+  pub put_full : (xs : List X) (n : ℕ) (x : X) → n ≤ length xs → length xs ≤ n → take n xs ≡ take (length xs) (take n xs ++ x ∷ [])
+  put_full xs n x h k = sym (take_at (take n xs) (x ∷ []) (length xs) (length-take-le n xs h ∙ omega arith))
 
   -- as much of ys as there is room for, behind the first n elements of xs
   module _ (xs ys zs : List X) (n k j : ℕ) (within : n ≤ length xs) (fits : k ≡ min (length xs - n) (length ys)) (same : j ≡ k) (put : zs ≡ take k ys) where

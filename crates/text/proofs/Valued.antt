@@ -1,8 +1,8 @@
 -- A field that is a number, and how many bytes it takes.
-use Rattle.std.proofs.Common.{◌≡◌, ℕ, ◌+◌, ◌≤◌, Bool, true, false, cond, eqb, List, [], ◌∷◌, ◌++◌, length, Some, None, Option, sym, refl, ap, ◌∙◌, arith, length-append}
+use Rattle.std.proofs.Common.{◌≡◌, ℕ, ◌+◌, ◌^◌, ◌<◌, ◌≤◌, Bool, true, false, cond, eqb, List, [], ◌∷◌, ◌++◌, length, Some, None, Option, sym, refl, ap, ◌∙◌, arith, length-append}
 use Rattle.std.proofs.lemmas.Bool.{eqb-true}
 use Rattle.text.specs.Values.{ends, field, longer, numeral, beside, in_field, value}
-use Rattle.text.proofs.Numerals.{numeral_some}
+use Rattle.text.proofs.Numerals.{numeral_some, numeral_fits}
 
 module _ (end : ℕ) (xs : List ℕ) where
   pub value_no_field : field end xs ≡ None → value end xs ≡ None
@@ -71,3 +71,23 @@ value-length end xs n r e =
     let s : length xs ≡ length f + length (end ∷ r) = ap length (field_splits end xs f r v.1) ∙ length-append f (end ∷ r) in
     let d = numeral_some f n v.2 in
     omega arith
+
+-- a number of 32 bits
+pub value_fits : (end : ℕ) (xs : List ℕ) (n : ℕ) (r : List ℕ) → value end xs ≡ Some (n, r) → n < 2 ^ 32
+value_fits end xs n r e = let v = value-field end xs n r e in numeral_fits v.0 n v.2
+
+-- lines of several values, and a tail
+module _ (x₀ x₁ x₂ x₃ x₄ : List ℕ) (a b c d : ℕ) where
+  pub four_values : (last : ℕ) → value 32 x₀ ≡ Some (a, x₁) → value 32 x₁ ≡ Some (b, x₂) → value 32 x₂ ≡ Some (c, x₃) → value last x₃ ≡ Some (d, x₄) → length x₄ + 8 ≤ length x₀
+  four_values last p q s t =
+      let i = value-length 32 x₀ a x₁ p in
+      let j = value-length 32 x₁ b x₂ q in
+      let k = value-length 32 x₂ c x₃ s in
+      let l = value-length last x₃ d x₄ t in
+      omega arith
+
+  pub five_values : (x₅ : List ℕ) (e last : ℕ) → value 32 x₀ ≡ Some (a, x₁) → value 32 x₁ ≡ Some (b, x₂) → value 32 x₂ ≡ Some (c, x₃) → value 32 x₃ ≡ Some (d, x₄) → value last x₄ ≡ Some (e, x₅) → length x₅ + 10 ≤ length x₀
+  five_values x₅ e last p q s t u =
+      let i = four_values 32 p q s t in
+      let l = value-length last x₄ e x₅ u in
+      omega arith

@@ -37,10 +37,18 @@ fn field_len(bytes: &[u8]) -> usize
 fn parse(digits: &[u8]) -> Option<u32>
     ensures { result ≡ numeral digits.now }
 {
-    if digits.len() > MOST_DIGITS || !digits.iter().all(u8::is_ascii_digit) {
+    if digits.is_empty() || digits.len() > MOST_DIGITS {
         return None;
     }
-    str::from_utf8(digits).ok()?.parse().ok()
+    // in one walk: the library's `parse` wants a `str`, whose test and the one for a sign would be a walk each
+    let mut n: u64 = 0;
+    for b in digits {
+        if !b.is_ascii_digit() {
+            return None;
+        }
+        n = n * 10 + u64::from(*b - b'0');
+    }
+    u32::try_from(n).ok()
 }
 
 impl Field<'_> {

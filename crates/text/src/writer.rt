@@ -35,7 +35,11 @@ impl<'a> Writer<'a> {
     pub fn byte(&mut self, b: u8)
         ensures { Wrote self.old self.new (b ∷ []) }
     {
-        self.text(&[b]);
+        // no call of `text`, whose copy costs more than the one byte
+        if self.len < self.place.len() {
+            self.place[self.len] = b;
+            self.len += 1;
+        }
     }
 
     // Adds a text, as far as there is room.

@@ -1,45 +1,40 @@
-use Rattle.std.proofs.Common.{◌≡◌, true, sym, ◌∙◌, Some, None, Ok, Err, Result, MatchResult, rules}
-use Rattle.std.specs.Result.{result_ok}
-use Rattle.std.proofs.lemmas.Iterator.{YieldsList-from_slice}
-use Rattle.std.proofs.lemmas.Iterator.Search.{all_from_yields_List}
-use Rattle.std.proofs.lemmas.Str.Parse.{parse_digits}
-use borrow.Author.Tests.{tests}
-use Rattle.text.specs.Values.{digit, all_digits}
-use Rattle.text.proofs.Numerals.{own, all-digit, numeral_long, numeral_other, numeral_is, digits_utf8}
+use Rattle.std.proofs.Common.{◌^◌, ◌<◌, length, sym, ◌∙◌, arith}
+use Rattle.std.proofs.lemmas.Bool.Decides.{nat_tests}
+use Rattle.text.proofs.Numerals.{read_none, read_more, read_small, numeral_empty, numeral_long, numeral_other, numeral_read}
 use Rattle.text.proofs.fields.parse.Goals as goal
-use Rattle.text.proofs.fields.parse.Goals.{then-digits-gt-MOST_DIGITS-via-then-digits-gt-MOST_DIGITS, then-digits-gt-MOST_DIGITS-via-else-digits-gt-MOST_DIGITS+then-not-all}
+use Rattle.text.proofs.fields.parse.Goals.{then-is_empty-via-then-is_empty, then-is_empty-via-else-is_empty+then-digits-gt-MOST_DIGITS}
 
--- what a clause says of the value that `ok` gave, and that `ok` gave none
-ok_has : {T E : Type 0} (P : T → Type 0) (Q : E → Type 0) (r : Result T E) (x : T) → MatchResult r P Q → result_ok r ≡ Some x → P x
-ok_has P Q (Ok y) x m e = let s : y ≡ x = cc in rw s at m
-ok_has P Q (Err y) x m e = cc
-
-ok_lacks : {T E : Type 0} (P : T → Type 0) (Q : E → Type 0) (r : Result T E) → MatchResult r P Q → result_ok r ≡ None → (y : E) × Q y
-ok_lacks P Q (Ok y) m e = cc
-ok_lacks P Q (Err y) m e = (y, m)
-
-pub returns-then-digits-gt-MOST_DIGITS : goal.returns-then-digits-gt-MOST_DIGITS
-returns-then-digits-gt-MOST_DIGITS c =
+pub returns-then-is_empty : goal.returns-then-is_empty
+returns-then-is_empty c =
     let xs = c.args.digits.now in
-    sym (elim c.then-digits-gt-MOST_DIGITS.branch [
-      | then-digits-gt-MOST_DIGITS-via-then-digits-gt-MOST_DIGITS w ↦ numeral_long xs w.if-digits-gt-MOST_DIGITS.true
-      | then-digits-gt-MOST_DIGITS-via-else-digits-gt-MOST_DIGITS+then-not-all w ↦ numeral_other xs
-          (sym (all-digit xs) ∙ sym (all_from_yields_List digit _ _ w.all.result w.all.ensures.ran (YieldsList-from_slice xs cc) (λ x b q k. search (rules, tests))) ∙ w.if-not-all.true)
+    sym (elim c.then-is_empty.branch [
+      | then-is_empty-via-then-is_empty w ↦ numeral_empty xs (let e = c.is_empty.ensures in let t = w.if-is_empty.true in grind (arith, nat_tests))
+      | then-is_empty-via-else-is_empty+then-digits-gt-MOST_DIGITS w ↦ numeral_long xs w.if-digits-gt-MOST_DIGITS.true
     ])
 
-pub returns-in_err-ok : goal.returns-in_err-ok
-returns-in_err-ok c =
-    let xs = c.args.digits.now in
-    let all : all_digits xs ≡ true =
-    sym (all-digit xs) ∙ sym (all_from_yields_List digit _ _ c.all.result c.all.ensures.ran (YieldsList-from_slice xs cc) (λ x b q k. search (rules, tests))) ∙ c.if-not-all.false in
-    let lacks = ok_lacks _ _ c.from_utf8.result c.from_utf8.ensures.cases (sym c.ok.ensures.value ∙ c.in_err-ok.was) in
-    absurd (lacks.1.0 (digits_utf8 xs all))
+pub loop-b-init : goal.loop-b-init
+loop-b-init c = read_none c.args.digits.now
+
+pub returns-then-not-is_ascii_digit : goal.returns-then-not-is_ascii_digit
+returns-then-not-is_ascii_digit c =
+    sym (numeral_other c.args.digits.now c.loop-b.b-index c.loop-b-test.true (sym c.is_ascii_digit.ensures.value ∙ c.if-not-is_ascii_digit.true))
+
+pub overflow_mul-n : goal.overflow_mul-n
+overflow_mul-n c =
+    let small : c.loop-b.n < 10 ^ 10 = read_small c.args.digits.now c.loop-b.b-index c.loop-b.n c.if-digits-gt-MOST_DIGITS.false c.loop-b.invariant in
+    omega arith
+
+pub overflow_add-n : goal.overflow_add-n
+overflow_add-n c =
+    let small : c.loop-b.n < 10 ^ 10 = read_small c.args.digits.now c.loop-b.b-index c.loop-b.n c.if-digits-gt-MOST_DIGITS.false c.loop-b.invariant in
+    omega arith
+
+pub loop-b-preserved : goal.loop-b-preserved
+loop-b-preserved c =
+    rw c.from.ensures (read_more c.args.digits.now c.loop-b.b-index c.loop-b.n c.loop-b-test.true (sym c.is_ascii_digit.ensures.value ∙ c.if-not-is_ascii_digit.false) c.loop-b.invariant)
 
 pub returns : goal.returns
 returns c =
     let xs = c.args.digits.now in
-    let all : all_digits xs ≡ true =
-    sym (all-digit xs) ∙ sym (all_from_yields_List digit _ _ c.all.result c.all.ensures.ran (YieldsList-from_slice xs cc) (λ x b q k. search (rules, tests))) ∙ c.if-not-all.false in
-    let has = ok_has _ _ c.from_utf8.result c.in_ok-ok.field-0 c.from_utf8.ensures.cases (sym c.ok.ensures.value ∙ c.in_ok-ok.was) in
-    let parsed = parse_digits own 32 xs c.parse.result (rw has.0 at c.parse.ensures.value.0) all in
-    c.ok-2.ensures.value ∙ numeral_is xs c.parse.result all c.if-digits-gt-MOST_DIGITS.false parsed
+    let some : 0 < length xs = let e = c.is_empty.ensures in let t = c.if-is_empty.false in grind (arith, nat_tests) in
+    c.ok.ensures.value ∙ numeral_read xs c.loop-b.b-index c.loop-b.n c.try_from.result c.loop-b-test.false c.loop-b.invariant some c.if-digits-gt-MOST_DIGITS.false c.try_from.ensures
