@@ -118,7 +118,7 @@ module _ (s t : Linkage) (i : ℕ) (ok : Linked s) (li : i < 257) (some : 0 < le
       go (inl y) = omega (arith, up_here i j k y, (ok.apart old).1)
       go (inr ne) = ne (ok.apart old).0
 
-  detached : Detached s t i (chain_of s i).first
+  pub detached : Detached s t i (chain_of s i).first
   detached = record {
     loose = record { less = omega (arith, room, first_within s i ok some); alone = alone };
     links = links;

@@ -23,7 +23,7 @@ first_yes f t l ls e = ap (λ b. cond (not b) (1 + first_of f t ls) 0) e
 first_no : (f t : ℕ) (l : Letter) (ls : List Letter) → for_pair f t l ≡ false → first_of f t (l ∷ ls) ≡ suc (first_of f t ls)
 first_no f t l ls e = omega (arith, ap (λ b. cond (not b) (1 + first_of f t ls) 0) e)
 
-pick-append : (f t : ℕ) (xs ys : List Letter) → pick f t (xs ++ ys) ≡ pick f t xs ++ pick f t ys
+pub pick-append : (f t : ℕ) (xs ys : List Letter) → pick f t (xs ++ ys) ≡ pick f t xs ++ pick f t ys
 pick-append f t xs ys =
     ap (map (λ l. l.message)) (filter-append (for_pair f t) xs ys) ∙ map-append (λ l. l.message) (filter (for_pair f t) xs) (filter (for_pair f t) ys)
 

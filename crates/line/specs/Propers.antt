@@ -36,7 +36,7 @@ other_pair f t i j l ne mine =
     (λ e. e) (cases_Bool (for_pair i j l))
 
 -- a letter at the front
-pick_front : (l : Letter) (ls : List Letter) → picked (l ∷ ls) ≡ put_pair (picked ls) l.pair.from l.pair.to (l.message ∷ pick l.pair.from l.pair.to ls)
+pub pick_front : (l : Letter) (ls : List Letter) → picked (l ∷ ls) ≡ put_pair (picked ls) l.pair.from l.pair.to (l.message ∷ pick l.pair.from l.pair.to ls)
 pick_front l ls =
     pair_is (picked ls) (picked (l ∷ ls)) l.pair.from l.pair.to (l.message ∷ pick l.pair.from l.pair.to ls)
     (λ i j ne. pick_no i j l ls (other_pair l.pair.from l.pair.to i j l ne (own_pair l)))
@@ -50,7 +50,7 @@ joins-parts n l ls j =
     (ltb-true l.pair.from n q.0, ltb-true l.pair.to n q.1, p.1)
 
 -- a letter between boards is for no pair beyond them
-no_sender : (n : ℕ) (ls : List Letter) → joins n ls ≡ true → (f t : ℕ) → n ≤ f → pick f t ls ≡ []
+pub no_sender : (n : ℕ) (ls : List Letter) → joins n ls ≡ true → (f t : ℕ) → n ≤ f → pick f t ls ≡ []
 no_sender n [] j f t h = refl
 no_sender n (l ∷ ls) j f t h =
     let p = joins-parts n l ls j in
@@ -58,7 +58,7 @@ no_sender n (l ∷ ls) j f t h =
     (λ e. absurd (omega (arith, p.0, eqb-true l.pair.from f (and_parts (eqb l.pair.from f) (eqb l.pair.to t) e).0)))
     (λ e. pick_no f t l ls e ∙ no_sender n ls p.2 f t h) (cases_Bool (for_pair f t l))
 
-no_taker : (n : ℕ) (ls : List Letter) → joins n ls ≡ true → (f t : ℕ) → n ≤ t → pick f t ls ≡ []
+pub no_taker : (n : ℕ) (ls : List Letter) → joins n ls ≡ true → (f t : ℕ) → n ≤ t → pick f t ls ≡ []
 no_taker n [] j f t h = refl
 no_taker n (l ∷ ls) j f t h =
     let p = joins-parts n l ls j in

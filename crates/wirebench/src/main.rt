@@ -51,10 +51,15 @@ fn rate<W: Open>(rt: &HostRuntime, wire: &mut W, waiting: u32, turns: u32) -> an
 
 // A row of the table: both wires with so many messages waiting, and the ratio of the two.
 fn row(rt: &HostRuntime, waiting: u32, turns: u32) -> anyhow::Result<()> {
-    let mut letters = vec![in rt.alloc(); Letter::BLANK; PLACES]?;
-    let mut links = vec![in rt.alloc(); Link::BLANK; PLACES]?;
-    let line = rate(rt, &mut Line::over(&mut letters), waiting, turns)?;
-    let chains = rate(rt, &mut Chains::over(&mut links), waiting, turns)?;
+    // Each wire's memory is given back before the next one's is taken.
+    let line = {
+        let mut letters = vec![in rt.alloc(); Letter::BLANK; PLACES]?;
+        rate(rt, &mut Line::over(&mut letters), waiting, turns)?
+    };
+    let chains = {
+        let mut links = vec![in rt.alloc(); Link::BLANK; PLACES]?;
+        rate(rt, &mut Chains::over(&mut links), waiting, turns)?
+    };
     let tenths = chains.saturating_mul(10) / line.max(1);
     println!(rt;
         "{waiting:>7} {line:>13} {chains:>13} {:>9}.{}",

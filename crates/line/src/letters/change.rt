@@ -1,5 +1,5 @@
 // Putting a letter behind the others, and taking one out.
-ghost use Rattle.std.specs.Prelude.{◌≡◌, ◌<◌, [], ◌∷◌, ◌++◌, length, slice_index_or};
+ghost use Rattle.std.specs.Prelude.{◌≡◌, ◌<◌, ◌≤◌, [], ◌∷◌, ◌++◌, length, take, drop, slice_index_or};
 ghost use Rattle.std.specs.List.{remove};
 ghost use Rattle.line.specs.declared.letters.Letter.{Letter};
 ghost use Rattle.line.specs.Letters.{letter};
@@ -44,8 +44,19 @@ impl Letters<'_> {
     {
         let message = self.places[at].message;
         let used = self.used;
-        self.places[at..used].rotate_left(1);
+        if at + 1 < used {
+            first_to_last(&mut self.places[at..used]);
+        }
         self.used = used - 1;
         message
     }
+}
+
+// Out of line: in `take` the counters of its loop would join the loop that looks for the letter.
+#[inline(never)]
+fn first_to_last(letters: &mut [Letter])
+    requires { 1 ≤ length letters.old }
+    ensures { letters.new ≡ drop 1 letters.old ++ take 1 letters.old }
+{
+    letters.rotate_left(1);
 }

@@ -1,10 +1,11 @@
-use Rattle.std.proofs.Common.{◌≡◌, ℕ, suc, ◌+◌, ◌-◌, ◌<◌, ◌≤◌, List, ◌++◌, length, take, drop, sym, ap, ◌∙◌, ap₂, append_assoc, add-one, arith, length-append, length-drop, length-take}
+use Rattle.std.proofs.Common.{◌≡◌, ℕ, suc, ◌+◌, ◌-◌, ◌<◌, ◌≤◌, List, [], ◌++◌, length, take, drop, sym, ap, ◌∙◌, ap₂, append_assoc, add-one, arith, length-append, length-drop, length-take}
 use Rattle.std.specs.List.{remove}
-use Rattle.std.proofs.lemmas.List.{length-take-le, take-take, take_all, take-append-le, drop-take, drop-drop}
+use Rattle.std.proofs.lemmas.List.{append-nil, drop_all, length-take-le, take-take, take_all, take-append-le, drop-take, drop-drop}
 use Rattle.std.proofs.lemmas.Slice.{take-put_mid}
 use borrow.Rule.Slice.PartMut.{put_mid, mid_of}
 use Rattle.line.specs.declared.letters.Letter.{Letter}
 use Rattle.line.proofs.letters.Letters.remove.Goals as goal
+use Rattle.line.proofs.letters.Letters.remove.Goals.{then-at-used, else-at-used}
 
 -- the letters from a place on, turned by one, without the last
 gap_closed : (xs turned : List Letter) (at used : ℕ) → at < used → used ≤ length xs
@@ -25,7 +26,18 @@ gap_closed xs turned at used l h e =
     ∙ take_all (used - 1) (take at xs ++ rest) (omega arith)
     ∙ sym (ap₂ (λ u v. u ++ v) (take-take at used xs (omega arith)) (ap (λ z. drop (suc at) (take z xs)) (omega arith) ∙ drop-take (suc at) n xs))
 
+-- nothing stands behind the last letter
+last_gone : (xs : List Letter) (at used : ℕ) → at < used → used ≤ at + 1 → take (used - 1) xs ≡ remove (take used xs) at
+last_gone xs at used l h =
+    let none : drop (suc at) (take used xs) ≡ [] = drop_all (suc at) (take used xs) (simp length-take (omega arith)) in
+    sym (ap₂ (λ u v. u ++ v) (take-take at used xs (omega arith)) none ∙ append-nil (take at xs) ∙ ap (λ n. take n xs) (omega arith))
+
 pub returns-clause-closed : goal.returns-clause-closed
 returns-clause-closed c =
     let l = c.args.self.now in
-    gap_closed l.places.now c.rotate_left.new.self c.args.at l.used (omega (arith, c.requires.there, length-take-le l.used l.places.now l.fits)) l.fits c.rotate_left.ensures.after
+    let xs = l.places.now in
+    let within : c.args.at < l.used = omega (arith, c.requires.there, length-take-le l.used xs l.fits) in
+    elim c.if-at-used.branch [
+      | then-at-used w ↦ rw w.self-is (gap_closed xs w.first_to_last.new.letters c.args.at l.used within l.fits w.first_to_last.ensures)
+      | else-at-used w ↦ rw w.self-is (last_gone xs c.args.at l.used within (omega (arith, w.if-at-used.false)))
+    ]
