@@ -1,4 +1,3 @@
 pub mod Places
 pub mod QueuesOf
 pub mod Rings
-pub mod Same

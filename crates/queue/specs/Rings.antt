@@ -1,5 +1,5 @@
 -- A ring over a list of places: its items, and what its calls say.
-use Rattle.std.specs.Prelude.{◌≡◌, ℕ, ◌+◌, ◌-◌, ◌<◌, List}
+use Rattle.std.specs.Prelude.{◌≡◌, ℕ, ◌+◌, ◌-◌, ◌<◌, cond, List, [], length, ◌==◌}
 use Rattle.std.proofs.Common.{zero-le}
 use Rattle.theory.specs.Lists.{ring}
 use Rattle.queue.specs.Places.{place_at}
@@ -8,6 +8,10 @@ use Rattle.queue.specs.declared.ring.Ring.{Ring}
 -- the items that a ring has in xs, the first to come out first
 abbrev pub items : {T : Type 0} → List T → Ring → List T
 items xs r = ring xs r.first r.len
+
+-- the same, and nothing where the ring has another room than xs
+unfoldable pub items_in : {T : Type 0} → List T → Ring → List T
+items_in xs r = cond (r.room == length xs) (items xs r) []
 
 -- the ring of a number that names none
 abbrev pub no_ring : Ring

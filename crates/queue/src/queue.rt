@@ -1,6 +1,5 @@
-// One queue over a lent slice.
-ghost use Rattle.std.specs.Prelude.{◌≡◌, length};
-
+// One queue over a lent slice. It has no ghost field beside the slice, so that a function can take it by value and
+// change it: a ring of another room than the slice has counts as empty.
 use crate::ring::Ring;
 
 mod methods;
@@ -9,5 +8,4 @@ mod methods;
 pub struct Queue<'a, T> {
     ring: Ring,
     places: &'a mut [T],
-    ghost fits: { ring.room ≡ length places.now },
 }

@@ -3,6 +3,7 @@ ghost use Rattle.std.specs.List.{slice_get};
 ghost use Rattle.theory.specs.Lists.{head, tail};
 ghost use Rattle.queue.specs.Pushes.{pushed, push_answer, has_room};
 ghost use Rattle.queue.specs.Queued.{queued, room_of};
+ghost use Rattle.queue.specs.Rings.{items};
 
 use super::Queue;
 use crate::Full;
@@ -22,7 +23,7 @@ impl<'a, T: Copy> Queue<'a, T> {
     pub fn len(&self) -> usize
         ensures { result ≡ length (queued self.now) }
     {
-        self.ring.len()
+        self.fitted().len()
     }
 
     pub fn room(&self) -> usize
@@ -35,7 +36,7 @@ impl<'a, T: Copy> Queue<'a, T> {
     pub fn get(&self, i: usize) -> Option<T>
         ensures { result ≡ slice_get (queued self.now) i }
     {
-        self.ring.item(self.places, i)
+        self.fitted().item(self.places, i)
     }
 
     pub fn first(&self) -> Option<T>
@@ -50,7 +51,10 @@ impl<'a, T: Copy> Queue<'a, T> {
         ensures room { room_of self.new ≡ room_of self.old }
         ensures refused { room_of self.old ≤ length (queued self.old) → self.new ≡ self.old }
     {
-        self.ring.push_into(self.places, x)
+        let mut ring = self.fitted();
+        ring.push_into(self.places, x)?;
+        self.ring = ring;
+        Ok(())
     }
 
     pub fn pop(&mut self) -> Option<T>
@@ -58,8 +62,22 @@ impl<'a, T: Copy> Queue<'a, T> {
         ensures after { queued self.new ≡ tail (queued self.old) }
         ensures room { room_of self.new ≡ room_of self.old }
     {
-        let x = self.first()?;
-        let _ = self.ring.pop();
-        Some(x)
+        // no call reads and pops at once: after a shared loan of a `&mut` field a proof does not know its value (tried)
+        let mut rest = self.fitted();
+        let at = rest.pop()?;
+        self.ring = rest;
+        Some(self.places[at])
+    }
+
+    // The ring, with as much room as there are places.
+    fn fitted(&self) -> Ring
+        ensures room { length self.now.places.now ≡ result.room }
+        ensures items { queued self.now ≡ items self.now.places.now result }
+    {
+        let room = self.places.len();
+        if self.ring.room() == room {
+            return self.ring;
+        }
+        Ring::new(room)
     }
 }

@@ -6,7 +6,7 @@ ghost use Rattle.queue.specs.Layouts.{layout_fits, layout_answer};
 ghost use Rattle.queue.specs.Pushes.{pushed_at, push_answer, has_room_at};
 ghost use Rattle.queue.specs.QueuesOf.{queues, count_of, each_of, places_len};
 
-use super::Queues;
+use super::{Layout, Queues};
 use crate::ring::Ring;
 use crate::{Full, TooSmall};
 
@@ -19,12 +19,13 @@ impl<'a, T: Copy> Queues<'a, T> {
         ensures each { each_of result ≡ 0 }
         ensures places { places_len result ≡ length places.old }
     {
-        Queues {
+        let layout = Layout {
             rings: [Ring::new(0); 16],
             count: 0,
             each: 0,
-            places,
-        }
+            lent: 0,
+        };
+        Queues { layout, places }
     }
 
     // Empty queues, so many with so many places each. What was queued before is dropped.
@@ -39,12 +40,16 @@ impl<'a, T: Copy> Queues<'a, T> {
         if count > 16 {
             return Err(TooSmall);
         }
-        if count as u128 * each as u128 > self.places.len() as u128 {
+        let lent = self.places.len();
+        if count as u128 * each as u128 > lent as u128 {
             return Err(TooSmall);
         }
-        self.rings = [Ring::new(each); 16];
-        self.count = count;
-        self.each = each;
+        self.layout = Layout {
+            rings: [Ring::new(each); 16],
+            count,
+            each,
+            lent,
+        };
         Ok(())
     }
 
@@ -53,15 +58,19 @@ impl<'a, T: Copy> Queues<'a, T> {
         ensures is { result ≡ count_of self.now }
         ensures few { result ≤ 16 }
     {
-        self.count
+        if self.layout.lent <= self.places.len() {
+            self.layout.count
+        } else {
+            0
+        }
     }
 
     // How many items queue b has: none where there is no such queue.
     pub fn len(&self, b: usize) -> usize
         ensures { result ≡ length (queues self.now b) }
     {
-        if b < self.count {
-            self.rings[b].len()
+        if b < self.count() {
+            self.layout.rings[b].len()
         } else {
             0
         }
@@ -71,11 +80,11 @@ impl<'a, T: Copy> Queues<'a, T> {
     pub fn get(&self, b: usize, i: usize) -> Option<T>
         ensures { result ≡ slice_get (queues self.now b) i }
     {
-        if b >= self.count {
+        if b >= self.count() {
             return None;
         }
         let start = self.start(b);
-        self.rings[b].item(&self.places[start..start + self.each], i)
+        self.layout.rings[b].item(&self.places[start..start + self.layout.each], i)
     }
 
     pub fn first(&self, b: usize) -> Option<T>
@@ -93,16 +102,16 @@ impl<'a, T: Copy> Queues<'a, T> {
         ensures places { places_len self.new ≡ places_len self.old }
         ensures refused { has_room_at (count_of self.old) (each_of self.old) b (queues self.old) ≡ false → self.new ≡ self.old }
     {
-        if b >= self.count {
+        if b >= self.count() {
             return Err(Full);
         }
         let from = self.start(b);
-        let to = from + self.each;
+        let to = from + self.layout.each;
         // by a copy (tried without): in a struct with ghost fields, a call on an element by `&mut` gets no proof
-        let mut ring = self.rings[b];
-        let pushed = ring.push_into(&mut self.places[from..to], x);
-        self.rings[b] = ring;
-        pushed
+        let mut ring = self.layout.rings[b];
+        ring.push_into(&mut self.places[from..to], x)?;
+        self.layout.rings[b] = ring;
+        Ok(())
     }
 
     // The first item of queue b, which leaves it: none where there is no such queue.
@@ -113,15 +122,15 @@ impl<'a, T: Copy> Queues<'a, T> {
         ensures each { each_of self.new ≡ each_of self.old }
         ensures places { places_len self.new ≡ places_len self.old }
     {
-        if b >= self.count {
+        if b >= self.count() {
             return None;
         }
-        let x = self.first(b)?;
-        // by a copy, as in `push`
-        let mut rest = self.rings[b];
-        let _ = rest.pop();
-        self.rings[b] = rest;
-        Some(x)
+        let start = self.start(b);
+        // by a copy, as in `push`, and with a read of its own, as in `Queue::pop`
+        let mut rest = self.layout.rings[b];
+        let at = rest.pop()?;
+        self.layout.rings[b] = rest;
+        Some(self.places[start + at])
     }
 
     // Where the places of queue b begin.
@@ -130,6 +139,6 @@ impl<'a, T: Copy> Queues<'a, T> {
         ensures is { result ≡ b * each_of self.now }
         ensures within { result + each_of self.now ≤ places_len self.now }
     {
-        b * self.each
+        b * self.layout.each
     }
 }

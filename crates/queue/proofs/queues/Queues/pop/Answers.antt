@@ -1,19 +1,25 @@
-use Rattle.std.proofs.Common.{get_or, sym, refl, ap, ◌∙◌}
+use Rattle.std.proofs.Common.{◌+◌, ◌<◌, get_or, Some, sym, refl, ap, ◌∙◌, arith}
 use Rattle.theory.specs.Functions.{put}
-use Rattle.theory.specs.Lists.{parts, head, tail}
-use Rattle.queue.specs.QueuesOf.{queues}
-use Rattle.queue.proofs.Rings.{items_rest}
-use Rattle.queue.proofs.QueuesOf.{queue_is, length-part, queues_changed}
+use Rattle.theory.specs.Lists.{head, tail}
+use Rattle.queue.specs.QueuesOf.{queues, count_of}
+use Rattle.queue.proofs.QueuesOf.{queue_first, queues_changed}
 use Rattle.queue.proofs.queues.Queues.pop.Goals as goal
+
+pub returns-clause-answer : goal.returns-clause-answer
+returns-clause-answer g c =
+    let q = c.args.self.now in
+    let l : c.args.b < count_of q = omega (arith, c.if-b-count.false, c.count.ensures.is) in
+    let x = c.index-self-start.result in
+    let e = c.index-self-start.is ∙ ap (λ k. get_or q.places.now (k + c.in_ok-at.at) x) c.start-start.ensures.is in
+    ap Some (sym c.index-self-start.is) ∙ sym (ap head (queue_first q c.args.b l c.index-self-b.result c.pop.new.self c.in_ok-at.at x c.in_ok-at.ensures e))
 
 pub returns-clause-after : goal.returns-clause-after
 returns-clause-after g c =
     let q = c.args.self.now in
     let b = c.args.b in
-    let l = c.if-b-self.false in
+    let l : b < count_of q = omega (arith, c.if-b-count.false, c.count.ensures.is) in
     let d = c.index-self-b.result in
-    let e = queue_is q b l d in
-    let first = ap head e ∙ sym c.first.ensures ∙ c.in_ok-x.was in
-    queues_changed q b l d c.pop.new.self q.places.now (λ j ne. refl)
-    ∙ ap (put (queues q) b)
-    (items_rest (parts q.places.now q.each b) (get_or q.rings b d) (length-part q b l d) c.pop.new.self c.pop.result c.in_ok-x.x c.pop.ensures first ∙ ap tail e)
+    let x = c.index-self-start.result in
+    let e = c.index-self-start.is ∙ ap (λ k. get_or q.places.now (k + c.in_ok-at.at) x) c.start-start.ensures.is in
+    queues_changed q b l d c.pop.new.self q.places.now refl (λ j ne. refl)
+    ∙ ap (put (queues q) b) (sym (ap tail (queue_first q b l d c.pop.new.self c.in_ok-at.at x c.in_ok-at.ensures e)))
