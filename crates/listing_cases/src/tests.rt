@@ -55,6 +55,9 @@ fn a_file_has_at_most_so_many_bytes(rt: HostRuntime) -> Result<(), Fail> {
     ends_with_its_last_lines(&rt, listing_over_chains(heap, &file)?);
     file.push(b'\n')?;
     assert_eq!(rt; listing_of(heap, &file)?.err(), Some(Refusal::Size));
-    assert_eq!(rt; listing_over_chains(heap, &file)?.err(), Some(Refusal::Size));
+    assert_eq!(rt;
+        listing_over_chains(heap, &file)?.err(),
+        Some(Refusal::Size)
+    );
     Ok(())
 }
