@@ -1,4 +1,4 @@
-use Rattle.std.proofs.Common.{◌≡◌, ◌+◌, ◌-◌, refl, arith}
+use Rattle.std.proofs.Common.{◌≡◌, ◌+◌, ◌-◌, take, refl, arith, rules}
 use Rattle.text.proofs.Fitted.{length-put_in, take-put_in, drop-put_in}
 use Rattle.text.proofs.writer.Writer.text.Goals as goal
 
@@ -7,7 +7,8 @@ returns c =
     let w = c.args.self.now in
     let k = c.min-n.result in
     let n : w.len + k - w.len ≡ k = omega arith in
-    let put = c.copy_from_slice.ensures.after in
+    let copied = c.copy_from_slice.ensures.after in
+    let put : c.copy_from_slice.new.self ≡ take k c.args.bytes.now = search rules in
     record {
       lent = refl;
       wide = length-put_in w.place.now c.args.bytes.now c.copy_from_slice.new.self w.len k _ w.ok c.min-n.ensures n put;
